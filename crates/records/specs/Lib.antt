@@ -1,0 +1,4 @@
+pub mod ColumnTypes
+pub mod Kinds
+pub mod Paths
+pub mod Refusals
