@@ -1,0 +1,4 @@
+pub mod Determined
+pub mod Inserting
+pub mod Picking
+pub mod Rows

@@ -1,0 +1,3 @@
+//! Tilings of range levels and grids of histogram levels.
+pub mod tiling;
+pub mod tiles;
