@@ -74,7 +74,7 @@ not-early xs ys rx ry xy (suc k) s =
     ]
 
 -- in a rising list equal values stand at one place
-one-place : (xs : List ℕ) → Up xs → (i j : ℕ) → i < length xs → j < length xs → getD xs i 0 ≡ getD xs j 0 → i ≡ j
+pub one-place : (xs : List ℕ) → Up xs → (i j : ℕ) → i < length xs → j < length xs → getD xs i 0 ≡ getD xs j 0 → i ≡ j
 one-place xs r i j a b e = elim (cases-lt i j) [
   | inl l ↦ let u = rises-far xs (length xs) r i j l b in absurd (let z : ⊥ = omega arith in z)
   | inr g ↦ elim (cases-eq i j) [

@@ -1,4 +1,5 @@
 pub mod ColumnTypes
+pub mod Faults
 pub mod Kinds
 pub mod Paths
 pub mod Refusals
