@@ -88,6 +88,6 @@ value-back b h = grind (arith, tells)
 pub undone : Undone
 unfolding number-of value-of
 undone = record {
-    values = λ v h n. ap value-of-bits (toBits-ofBits binary64 (bits-of v) (bits-lt v h) n) ∙ bits-back v h;
-    numbers = λ x f n. ap (ofBits binary64) (value-back (toBits binary64 x) (toBits-lt binary64 x f)) ∙ ofBits-toBits binary64 x f;
-  }
+  values = λ v h n. ap value-of-bits (toBits-ofBits binary64 (bits-of v) (bits-lt v h) n) ∙ bits-back v h;
+  numbers = λ x f n. ap (ofBits binary64) (value-back (toBits binary64 x) (toBits-lt binary64 x f)) ∙ ofBits-toBits binary64 x f;
+}

@@ -84,22 +84,22 @@ floor-order nan = record { from = omega (arith, ints); to = omega (arith, ints);
 floor-order (inf true) = record { from = omega (arith, ints); to = omega (arith, ints); not-above = λ n. inr refl; greatest = λ k l h. absurd h; of-nan = λ e. cc }
 floor-order (inf false) = record { from = omega (arith, ints); to = omega (arith, ints); not-above = λ n. inl tt; greatest = λ k l h. l; of-nan = λ e. cc }
 floor-order (fin true m e) = record {
-    from = omega (arith, ints);
-    to = omega (arith, ints);
-    not-above = λ n. elim (cases-lt (2 ^ 63) (over (m * up e) (down e))) [
-      | inl l ↦ inr (omega (arith, ints))
-      | inr l ↦ inl (floor-to (negℤ (pos (min (over (m * up e) (down e)) (2 ^ 63)))) true (m * up e) (down e) (down-pos e) (omega (arith, ints)))
-    ];
-    greatest = λ k l h. let g = floor-from k true (m * up e) (down e) (down-pos e) h in omega (arith, ints);
-    of-nan = λ e. cc;
-  }
+  from = omega (arith, ints);
+  to = omega (arith, ints);
+  not-above = λ n. elim (cases-lt (2 ^ 63) (over (m * up e) (down e))) [
+    | inl l ↦ inr (omega (arith, ints))
+    | inr l ↦ inl (floor-to (negℤ (pos (min (over (m * up e) (down e)) (2 ^ 63)))) true (m * up e) (down e) (down-pos e) (omega (arith, ints)))
+  ];
+  greatest = λ k l h. let g = floor-from k true (m * up e) (down e) (down-pos e) h in omega (arith, ints);
+  of-nan = λ e. cc;
+}
 floor-order (fin false m e) = record {
-    from = omega (arith, ints);
-    to = omega (arith, ints);
-    not-above = λ n. inl (floor-to (pos (min (part (m * up e) (down e)) (2 ^ 63 - 1))) false (m * up e) (down e) (down-pos e) (omega (arith, ints)));
-    greatest = λ k l h. let g = floor-from k false (m * up e) (down e) (down-pos e) h in omega (arith, ints);
-    of-nan = λ e. cc;
-  }
+  from = omega (arith, ints);
+  to = omega (arith, ints);
+  not-above = λ n. inl (floor-to (pos (min (part (m * up e) (down e)) (2 ^ 63 - 1))) false (m * up e) (down e) (down-pos e) (omega (arith, ints)));
+  greatest = λ k l h. let g = floor-from k false (m * up e) (down e) (down-pos e) h in omega (arith, ints);
+  of-nan = λ e. cc;
+}
 
 pub ceil-i64-order : (x : Float) → Ceiling (negℤ (pos (2 ^ 63))) (pos (2 ^ 63 - 1)) x (ceil-i64 x)
 unfolding ceil-i64 isNan
@@ -107,22 +107,22 @@ ceil-i64-order nan = record { from = omega (arith, ints); to = omega (arith, int
 ceil-i64-order (inf true) = record { from = omega (arith, ints); to = omega (arith, ints); not-below = λ n. inl tt; least = λ k l h. l; of-nan = λ e. cc }
 ceil-i64-order (inf false) = record { from = omega (arith, ints); to = omega (arith, ints); not-below = λ n. inr refl; least = λ k l h. absurd h; of-nan = λ e. cc }
 ceil-i64-order (fin true m e) = record {
-    from = omega (arith, ints);
-    to = omega (arith, ints);
-    not-below = λ n. inl (raise-to (negℤ (pos (min (part (m * up e) (down e)) (2 ^ 63)))) true (m * up e) (down e) (down-pos e) (omega (arith, ints)));
-    least = λ k l h. let g = raise-from k true (m * up e) (down e) (down-pos e) h in omega (arith, ints);
-    of-nan = λ e. cc;
-  }
+  from = omega (arith, ints);
+  to = omega (arith, ints);
+  not-below = λ n. inl (raise-to (negℤ (pos (min (part (m * up e) (down e)) (2 ^ 63)))) true (m * up e) (down e) (down-pos e) (omega (arith, ints)));
+  least = λ k l h. let g = raise-from k true (m * up e) (down e) (down-pos e) h in omega (arith, ints);
+  of-nan = λ e. cc;
+}
 ceil-i64-order (fin false m e) = record {
-    from = omega (arith, ints);
-    to = omega (arith, ints);
-    not-below = λ n. elim (cases-lt (2 ^ 63 - 1) (over (m * up e) (down e))) [
-      | inl l ↦ inr (omega (arith, ints))
-      | inr l ↦ inl (raise-to (pos (min (over (m * up e) (down e)) (2 ^ 63 - 1))) false (m * up e) (down e) (down-pos e) (omega (arith, ints)))
-    ];
-    least = λ k l h. let g = raise-from k false (m * up e) (down e) (down-pos e) h in omega (arith, ints);
-    of-nan = λ e. cc;
-  }
+  from = omega (arith, ints);
+  to = omega (arith, ints);
+  not-below = λ n. elim (cases-lt (2 ^ 63 - 1) (over (m * up e) (down e))) [
+    | inl l ↦ inr (omega (arith, ints))
+    | inr l ↦ inl (raise-to (pos (min (over (m * up e) (down e)) (2 ^ 63 - 1))) false (m * up e) (down e) (down-pos e) (omega (arith, ints)))
+  ];
+  least = λ k l h. let g = raise-from k false (m * up e) (down e) (down-pos e) h in omega (arith, ints);
+  of-nan = λ e. cc;
+}
 
 pub ceil-u64-order : (x : Float) → Ceiling (pos 0) (pos (2 ^ 64 - 1)) x (pos (ceil-u64 x))
 unfolding ceil-u64 isNan
@@ -130,24 +130,24 @@ ceil-u64-order nan = record { from = omega (arith, ints); to = omega (arith, int
 ceil-u64-order (inf true) = record { from = omega (arith, ints); to = omega (arith, ints); not-below = λ n. inl tt; least = λ k l h. l; of-nan = λ e. cc }
 ceil-u64-order (inf false) = record { from = omega (arith, ints); to = omega (arith, ints); not-below = λ n. inr refl; least = λ k l h. absurd h; of-nan = λ e. cc }
 ceil-u64-order (fin true m e) = record {
-    from = omega (arith, ints);
-    to = omega (arith, ints);
-    not-below = λ n. inl (raise-to (pos 0) true (m * up e) (down e) (down-pos e) (omega (arith, ints)));
-    least = λ k l h. l;
-    of-nan = λ e. cc;
-  }
+  from = omega (arith, ints);
+  to = omega (arith, ints);
+  not-below = λ n. inl (raise-to (pos 0) true (m * up e) (down e) (down-pos e) (omega (arith, ints)));
+  least = λ k l h. l;
+  of-nan = λ e. cc;
+}
 ceil-u64-order (fin false m e) = record {
-    from = omega (arith, ints);
-    to = omega (arith, ints);
-    not-below = λ n. elim (cases-lt (2 ^ 64 - 1) (over (m * up e) (down e))) [
-      | inl l ↦ inr (omega (arith, ints))
-      | inr l ↦ inl (raise-to (pos (min (over (m * up e) (down e)) (2 ^ 64 - 1))) false (m * up e) (down e) (down-pos e) (omega (arith, ints)))
-    ];
-    least = λ k l h. let g = raise-from k false (m * up e) (down e) (down-pos e) h in omega (arith, ints);
-    of-nan = λ e. cc;
-  }
+  from = omega (arith, ints);
+  to = omega (arith, ints);
+  not-below = λ n. elim (cases-lt (2 ^ 64 - 1) (over (m * up e) (down e))) [
+    | inl l ↦ inr (omega (arith, ints))
+    | inr l ↦ inl (raise-to (pos (min (over (m * up e) (down e)) (2 ^ 64 - 1))) false (m * up e) (down e) (down-pos e) (omega (arith, ints)))
+  ];
+  least = λ k l h. let g = raise-from k false (m * up e) (down e) (down-pos e) h in omega (arith, ints);
+  of-nan = λ e. cc;
+}
 
--- ---- the whole numbers next to a float are floats, so `floor` and `ceil` round nothing
+-- ---- the whole numbers next to a float are floats, so `ceil` rounds nothing
 
 -- what `fits` says of the digits and the size
 small : (f : Format) (s : Bool) (m : ℕ) (e : ℤ) → T (fits f (fin s m e)) → (m < 2 ^ prec f) × (m * up e < 2 ^ suc (emax f) * down e)
@@ -161,7 +161,7 @@ small f s (suc m) e h =
     (ltb→lt (suc m) (2 ^ prec f) (and-r a b (and-l (a && b) c (and-l (a && b && c) d h))), ltb→lt (suc m * up e) (2 ^ suc (emax f) * down e) (and-r (a && b && c) d h))
 
 -- m * 2 ^ k is held exactly
-shifted : (f : Format) (s : Bool) (m k : ℕ) → m < 2 ^ prec f → m * 2 ^ k < 2 ^ suc (emax f) * 1 → HasValue (round f s (m * 2 ^ k) 1) s (m * 2 ^ k) 1
+pub shifted : (f : Format) (s : Bool) (m k : ℕ) → m < 2 ^ prec f → m * 2 ^ k < 2 ^ suc (emax f) * 1 → HasValue (round f s (m * 2 ^ k) 1) s (m * 2 ^ k) 1
 shifted f s m k a b =
     let b′ : m * 2 ^ k < 2 ^ suc (emax f) = omega (arith, b) in
     round-exact f s (m * 2 ^ k) 1 m (k + low f) (zero-lt-suc 0) a
@@ -228,11 +228,3 @@ ceil-u64-is (inf true) h = refl
 ceil-u64-is (inf false) h = refl
 ceil-u64-is (fin true m e) h = as-none 64 _ _ (part-held binary64 true m e h)
 ceil-u64-is (fin false m e) h = as-unsigned 64 _ _ (over-held binary64 false m e h)
-
-pub floor-i64-is : (x : Float) → T (fits binary64 x) → toSigned 63 (Floats.floor binary64 x) ≡ floor-i64 x
-unfolding floor-i64 Floats.wholeBy toSigned
-floor-i64-is nan h = refl
-floor-i64-is (inf true) h = refl
-floor-i64-is (inf false) h = refl
-floor-i64-is (fin true m e) h = as-negative 63 _ _ (over-held binary64 true m e h)
-floor-i64-is (fin false m e) h = as-positive 63 _ _ (part-held binary64 false m e h)

@@ -3,6 +3,7 @@ ghost use mathlib.Core.Path.{_≡_};
 ghost use Prim.Native.Nat.{_-_, _^_};
 ghost use lib.IntN.{pos, negℤ};
 ghost use Rattle.numbers.specs.Whole as Whole;
+use std::num::nearest_i64_to_f64;
 use std::num::saturating_f64_to_i64;
 use std::num::saturating_f64_to_u64;
 
@@ -11,7 +12,12 @@ pub fn floor_i64(x: f64) -> i64
     ensures value { λ r. ⌜ r ≡ Whole.floor-i64 x ⌝ }
     ensures order { λ r. ⌜ Whole.Floor (negℤ (pos (2 ^ 63))) (pos (2 ^ 63 - 1)) x r ⌝ }
 {
-    saturating_f64_to_i64(x.floor())
+    let cut = saturating_f64_to_i64(x);
+    if nearest_i64_to_f64(cut) > x {
+        cut.saturating_sub(1)
+    } else {
+        cut
+    }
 }
 
 /// The least whole number not below x, as an i64: the nearest one where it is out of range, and 0 for a NaN.
@@ -28,4 +34,21 @@ pub fn ceil_u64(x: f64) -> u64
     ensures order { λ r. ⌜ Whole.Ceiling (pos 0) (pos (2 ^ 64 - 1)) x (pos r) ⌝ }
 {
     saturating_f64_to_u64(x.ceil())
+}
+
+#[cfg(test)]
+mod tests {
+    use super::*;
+    use std::test::*;
+
+    #[test]
+    fn next_to_a_float() -> Result<(), Fail> {
+        check_eq(floor_i64(-0.5), -1)?;
+        check_eq(floor_i64(-3.0), -3)?;
+        check_eq(floor_i64(1e300), i64::MAX)?;
+        check_eq(floor_i64(-1e300), i64::MIN)?;
+        check_eq(floor_i64(f64::NAN), 0)?;
+        check_eq(ceil_i64(-0.5), 0)?;
+        check_eq(ceil_u64(12.5), 13)
+    }
 }
