@@ -1,0 +1,103 @@
+//! The smallest and the largest value.
+ghost use mathlib.Core.Path.{_≡_};
+ghost use Prim.Native.Nat.{ℕ};
+ghost use Rattle.std.specs.declared.option.Option.{Option};
+ghost use Rattle.std.specs.declared.option.Option.the-variants.{Some, None};
+ghost use Rattle.metrics.specs.Ends.{Ends, widened, least-of, greatest-of};
+use crate::exact::Exact;
+use crate::joinable::Joinable;
+use crate::tally::Tally;
+use records::column_type::ColumnType;
+
+/// The smallest and the largest of the values it was fed, as u64, or none.
+#[derive(Clone, Copy, Debug)]
+pub struct Extremes {
+    ends: Option<(u64, u64)>,
+}
+
+impl Extremes {
+    /// The smallest value, or none.
+    pub fn least(&self) -> Option<u64>
+        ensures { λ r. ⌜ r ≡ least-of (now (self .entry) .ends) ⌝ }
+    {
+        match self.ends {
+            Some((least, _)) => Some(least),
+            None => None,
+        }
+    }
+
+    /// The largest value, or none.
+    pub fn greatest(&self) -> Option<u64>
+        ensures { λ r. ⌜ r ≡ greatest-of (now (self .entry) .ends) ⌝ }
+    {
+        match self.ends {
+            Some((_, greatest)) => Some(greatest),
+            None => None,
+        }
+    }
+}
+
+/// The ends of all values that lie within one pair of ends or the other.
+fn wider(ends: Option<(u64, u64)>, other: Option<(u64, u64)>) -> Option<(u64, u64)>
+    ensures { λ r. ⌜ r ≡ widened ends other ⌝ }
+{
+    match (ends, other) {
+        (None, _) => other,
+        (_, None) => ends,
+        (Some((a, b)), Some((c, d))) => Some((a.min(c), b.max(d))),
+    }
+}
+
+pub impl Tally for Extremes as ExtremesIsTally {
+    ghost Worth = { Ends };
+
+    ghost worth = { λ e. e .ends };
+
+    ghost nothing = { None };
+
+    ghost fed = { λ _ v w. widened w (Some (v, v)) };
+
+    fn empty() -> Extremes {
+        Extremes { ends: None }
+    }
+
+    fn feed(&mut self, _field_type: ColumnType, val: u64) {
+        self.ends = wider(self.ends, Some((val, val)));
+    }
+
+    fn same(&self, other: &Extremes) -> bool {
+        self.ends == other.ends
+    }
+}
+
+pub impl Joinable for Extremes as ExtremesIsJoinable {
+    ghost Worth = { Ends };
+
+    ghost worth = { λ e. e .ends };
+
+    ghost joined = { widened };
+
+    fn merge_fruits(&mut self, other: &Extremes) {
+        self.ends = wider(self.ends, other.ends);
+    }
+
+    fn joinable_stands() -> u8 {
+        0
+    }
+}
+
+pub impl Exact for Extremes as ExtremesIsExact {
+    ghost Worth = { Ends };
+
+    ghost worth = { λ e. e .ends };
+
+    ghost nothing = { None };
+
+    ghost fed = { λ _ v w. widened w (Some (v, v)) };
+
+    ghost joined = { widened };
+
+    fn exact_stands() -> u8 {
+        0
+    }
+}
