@@ -3,4 +3,5 @@ pub mod exact;
 pub mod extremes;
 pub mod joinable;
 pub mod number;
+pub mod stats;
 pub mod tally;
