@@ -1,7 +1,6 @@
 -- What is kept as bits reads back: each number that a step gives fits its format.
-use mathlib.Core.Path.{_≡_, sym, ap, _∙_}
+use mathlib.Core.Path.{_≡_, sym, ap, subst, _∙_}
 use mathlib.Core.Bool.{Bool, true}
-use mathlib.Core.Path.{subst}
 use Prim.Native.Nat.{ℕ}
 use lib.Dec.{T, eqb}
 use lib.Ieee.{Float, binary64, fits, ofBits, toBits}
@@ -24,8 +23,11 @@ read-back s n y l h p q =
     let e = ofBits-toBits binary64 (r .high) (cond-fits binary64 _ _ _ (ofBits-fits binary64 _) (holds q)) in
     λ i. record { count = r .count; sum = a i; delta = b i; low = d i; high = e i }
 
--- two patterns have one canonical pattern exactly if they stand for one number
-pub same-bits : (a b : ℕ) → Decides (eqb (toBits binary64 (ofBits binary64 a)) (toBits binary64 (ofBits binary64 b))) (ofBits binary64 a ≡ ofBits binary64 b)
-same-bits a b =
-    let back = λ (n : ℕ). ofBits-toBits binary64 (ofBits binary64 n) (ofBits-fits binary64 n) in
-    decides-like _ (λ e. sym (back a) ∙ ap (ofBits binary64) e ∙ back b) (λ e. ap (toBits binary64) e) (decides-eqb _ _)
+-- two canonical patterns are equal exactly if they stand for one number
+pub same-bits : (a b m n : ℕ) → m ≡ toBits binary64 (ofBits binary64 a) → n ≡ toBits binary64 (ofBits binary64 b) → Decides (eqb m n) (ofBits binary64 a ≡ ofBits binary64 b)
+same-bits a b m n p q =
+    let back = λ (k : ℕ). ofBits-toBits binary64 (ofBits binary64 k) (ofBits-fits binary64 k) in
+    decides-like (eqb m n)
+    (λ e. sym (back a) ∙ ap (ofBits binary64) (sym p ∙ e ∙ q) ∙ back b)
+    (λ e. p ∙ ap (toBits binary64) e ∙ sym q)
+    (decides-eqb m n)

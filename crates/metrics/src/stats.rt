@@ -1,9 +1,14 @@
 //! Count, compensated sum, least and greatest of the values as numbers.
 ghost use mathlib.Core.Path.{_≡_};
-ghost use lib.Ieee as Ieee;
-ghost use lib.Ieee.{binary64};
+ghost use lib.Ieee.{binary64, ofBits};
 ghost use Rattle.std.specs.Orderings.{Decides};
 ghost use Rattle.metrics.specs.Sums.{Sums, no-sums, advanced, collected, merged, stats-worth, stored, mean, finalized};
+ghost use Rattle.numbers.specs.Columns.{number-of};
+ghost use Rattle.metrics.specs.Cases.{Worked};
+use crate::joinable::Joinable;
+use crate::tally::Tally;
+use numbers::fast_field::f64_from_fastfield_u64;
+use records::column_type::ColumnType;
 use std::num::f64_from_bits_with_nan;
 use std::num::f64_to_bits_with_nan;
 use std::num::nearest_u64_to_f64;
@@ -43,20 +48,6 @@ pub struct IntermediateStats {
 }
 
 impl IntermediateStats {
-    /// The stats of no value: the least is +∞, the greatest −∞.
-    pub fn new() -> Self
-        ensures kept { λ r. ⌜ r ≡ stored no-sums ⌝ }
-        ensures read { λ r. ⌜ stats-worth r ≡ no-sums ⌝ }
-    {
-        IntermediateStats {
-            count: 0,
-            sum: 0,
-            delta: 0,
-            min: 0x7ff0_0000_0000_0000,
-            max: 0xfff0_0000_0000_0000,
-        }
-    }
-
     /// The number of values collected.
     pub fn count(&self) -> u64
         ensures { λ r. ⌜ r ≡ stats-worth (now (self .entry)) .count ⌝ }
@@ -109,15 +100,6 @@ impl IntermediateStats {
         self.advance(1, y, value, value);
     }
 
-    /// Merges the other intermediate result into this one.
-    pub fn merge(&mut self, other: &IntermediateStats)
-        ensures kept { λ _. ⌜ now (self .exit) ≡ stored (merged (stats-worth (now (self .entry))) (stats-worth (now (other .entry)))) ⌝ }
-        ensures read { λ _. ⌜ stats-worth (now (self .exit)) ≡ merged (stats-worth (now (self .entry))) (stats-worth (now (other .entry))) ⌝ }
-    {
-        let y = other.sum() - (f64_from_bits_with_nan(self.delta) + f64_from_bits_with_nan(other.delta));
-        self.advance(other.count, y, f64_from_bits_with_nan(other.min), f64_from_bits_with_nan(other.max));
-    }
-
     /// Goes on by `count` values whose sum, less the compensation, is `y`: one step of Kahan's algorithm.
     fn advance(&mut self, count: u64, y: f64, min: f64, max: f64)
         ensures kept { λ _. ⌜ now (self .exit) ≡ stored (advanced (stats-worth (now (self .entry))) count y min max) ⌝ }
@@ -136,7 +118,70 @@ impl IntermediateStats {
 
 /// Whether two patterns stand for the same float; any NaN is one.
 fn same_float(a: u64, b: u64) -> bool
-    ensures { λ r. ⌜ Decides r (Ieee.ofBits binary64 a ≡ Ieee.ofBits binary64 b) ⌝ }
+    ensures { λ r. ⌜ Decides r (ofBits binary64 a ≡ ofBits binary64 b) ⌝ }
 {
     f64_to_bits_with_nan(f64_from_bits_with_nan(a)) == f64_to_bits_with_nan(f64_from_bits_with_nan(b))
+}
+
+pub impl Tally for IntermediateStats as IntermediateStatsIsTally {
+    ghost Worth = { Sums };
+
+    ghost worth = { stats-worth };
+
+    ghost nothing = { no-sums };
+
+    ghost fed = { λ t v s. collected s (number-of t v) };
+
+    /// The stats of no value: the least is +∞, the greatest −∞.
+    fn empty() -> IntermediateStats {
+        IntermediateStats {
+            count: 0,
+            sum: 0,
+            delta: 0,
+            min: 0x7ff0_0000_0000_0000,
+            max: 0xfff0_0000_0000_0000,
+        }
+    }
+
+    /// Collects the number that the value stands for.
+    fn feed(&mut self, field_type: ColumnType, val: u64) {
+        self.collect(f64_from_fastfield_u64(val, field_type));
+    }
+
+    fn same(&self, other: &IntermediateStats) -> bool {
+        self.count == other.count
+            && same_float(self.sum, other.sum)
+            && same_float(self.delta, other.delta)
+            && same_float(self.min, other.min)
+            && same_float(self.max, other.max)
+    }
+}
+
+pub impl Joinable for IntermediateStats as IntermediateStatsIsJoinable {
+    ghost Worth = { Sums };
+
+    ghost worth = { stats-worth };
+
+    ghost joined = { merged };
+
+    fn merge_fruits(&mut self, other: &IntermediateStats) {
+        let y = other.sum() - (f64_from_bits_with_nan(self.delta) + f64_from_bits_with_nan(other.delta));
+        self.advance(
+            other.count,
+            y,
+            f64_from_bits_with_nan(other.min),
+            f64_from_bits_with_nan(other.max),
+        );
+    }
+
+    fn joinable_stands() -> u8 {
+        0
+    }
+}
+
+/// The worked cases: 2^53, 1 and 1 sum to 2^53 + 2, and after +∞ and 1 the sum is +∞ and the least 1.
+pub fn stats_stand() -> u8
+    ensures { λ _. ⌜ Worked ⌝ }
+{
+    0
 }
