@@ -71,9 +71,9 @@ pub impl Tally for Extremes as ExtremesIsTally {
 }
 
 pub impl Joinable for Extremes as ExtremesIsJoinable {
-    ghost Worth = { Ends };
+    ghost Worth = { Self·Tally .Worth };
 
-    ghost worth = { λ e. e .ends };
+    ghost worth = { Self·Tally .worth };
 
     ghost joined = { widened };
 
@@ -87,15 +87,15 @@ pub impl Joinable for Extremes as ExtremesIsJoinable {
 }
 
 pub impl Exact for Extremes as ExtremesIsExact {
-    ghost Worth = { Ends };
+    ghost Worth = { Self·Tally .Worth };
 
-    ghost worth = { λ e. e .ends };
+    ghost worth = { Self·Tally .worth };
 
-    ghost nothing = { None };
+    ghost nothing = { Self·Tally .nothing };
 
-    ghost fed = { λ _ v w. widened w (Some (v, v)) };
+    ghost fed = { Self·Tally .fed };
 
-    ghost joined = { widened };
+    ghost joined = { Self·Joinable .joined };
 
     fn exact_stands() -> u8 {
         0

@@ -44,9 +44,9 @@ pub impl Tally for Number as NumberIsTally {
 }
 
 pub impl Joinable for Number as NumberIsJoinable {
-    ghost Worth = { Counted };
+    ghost Worth = { Self·Tally .Worth };
 
-    ghost worth = { number-worth };
+    ghost worth = { Self·Tally .worth };
 
     ghost joined = { added };
 
@@ -60,15 +60,15 @@ pub impl Joinable for Number as NumberIsJoinable {
 }
 
 pub impl Exact for Number as NumberIsExact {
-    ghost Worth = { Counted };
+    ghost Worth = { Self·Tally .Worth };
 
-    ghost worth = { number-worth };
+    ghost worth = { Self·Tally .worth };
 
-    ghost nothing = { capped 0 };
+    ghost nothing = { Self·Tally .nothing };
 
-    ghost fed = { λ _ _. one-more };
+    ghost fed = { Self·Tally .fed };
 
-    ghost joined = { added };
+    ghost joined = { Self·Joinable .joined };
 
     fn exact_stands() -> u8 {
         0

@@ -158,9 +158,9 @@ pub impl Tally for IntermediateStats as IntermediateStatsIsTally {
 }
 
 pub impl Joinable for IntermediateStats as IntermediateStatsIsJoinable {
-    ghost Worth = { Sums };
+    ghost Worth = { Self·Tally .Worth };
 
-    ghost worth = { stats-worth };
+    ghost worth = { Self·Tally .worth };
 
     ghost joined = { merged };
 
