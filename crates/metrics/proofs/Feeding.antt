@@ -26,9 +26,11 @@ module _ {W : Type 0} (fed : ColumnType → ℕ → W → W) (t : ColumnType) wh
     fed-joins xs ys = fed-more xs ys nothing ∙ fed-on ys (fed-all fed t xs nothing)
 
 -- tallies fed apart and merged are worth one fed both lists: the worths of the two are joined
-pub fed-apart : {S V U : Type 0} {worth : S → V} {nothing : V} {fed : ColumnType → ℕ → V → V} {j-worth : S → U} {j-joined : U → U → U} (b : Exact-below worth nothing fed j-worth j-joined) (t : ColumnType) (xs ys : List ℕ) (x y r : S) → worth x ≡ fed-all fed t xs nothing → worth y ≡ fed-all fed t ys nothing → j-worth r ≡ j-joined (j-worth x) (j-worth y) → (worth r ≡ fed-all fed t (xs ++ ys) nothing) × (worth r ≡ fed-all fed t (ys ++ xs) nothing)
-fed-apart {worth = worth} {nothing = nothing} {fed = fed} b t xs ys x y r p q e =
+pub fed-apart : {S V U : Type 0} {worth : S → V} {nothing : V} {fed : ColumnType → ℕ → V → V} {j-worth : S → U} {j-joined : U → U → U} (b : Exact-below worth nothing fed j-worth j-joined) (t : ColumnType) (xs ys : List ℕ) (x₀ y₀ x y r : S) → worth x₀ ≡ nothing → worth y₀ ≡ nothing → worth x ≡ fed-all fed t xs (worth x₀) → worth y ≡ fed-all fed t ys (worth y₀) → j-worth r ≡ j-joined (j-worth x) (j-worth y) → (worth r ≡ fed-all fed t (xs ++ ys) nothing) × (worth r ≡ fed-all fed t (ys ++ xs) nothing)
+fed-apart {worth = worth} {nothing = nothing} {fed = fed} b t xs ys x₀ y₀ x y r nx ny p q e =
+    let first : worth x ≡ fed-all fed t xs nothing = p ∙ ap (fed-all fed t xs) nx in
+    let second : worth y ≡ fed-all fed t ys nothing = q ∙ ap (fed-all fed t ys) ny in
     let both : worth r ≡ b .joined (fed-all fed t xs nothing) (fed-all fed t ys nothing) =
-        merged-below b x y r e ∙ ap (λ w. b .joined w (worth y)) p ∙ ap (b .joined (fed-all fed t xs nothing)) q
+        merged-below b x y r e ∙ ap (λ w. b .joined w (worth y)) first ∙ ap (b .joined (fed-all fed t xs nothing)) second
     in
     (both ∙ sym (fed-joins fed t (b .laws) xs ys), both ∙ b .laws .comm _ _ ∙ sym (fed-joins fed t (b .laws) ys xs))

@@ -3,7 +3,7 @@ ghost use mathlib.Core.Path.{_≡_};
 ghost use Prim.Native.Nat.{ℕ};
 ghost use Rattle.std.specs.declared.option.Option.{Option};
 ghost use Rattle.std.specs.declared.option.Option.the-variants.{Some, None};
-ghost use Rattle.metrics.specs.Ends.{Ends, widened, least-of, greatest-of};
+ghost use Rattle.metrics.specs.Ends.{Ends, widened, reaching, least-of, greatest-of, Reaches};
 use crate::exact::Exact;
 use crate::joinable::Joinable;
 use crate::tally::Tally;
@@ -55,7 +55,7 @@ pub impl Tally for Extremes as ExtremesIsTally {
 
     ghost nothing = { None };
 
-    ghost fed = { λ _ v w. widened w (Some (v, v)) };
+    ghost fed = { reaching };
 
     fn empty() -> Extremes {
         Extremes { ends: None }
@@ -100,4 +100,11 @@ pub impl Exact for Extremes as ExtremesIsExact {
     fn exact_stands() -> u8 {
         0
     }
+}
+
+/// Extremes are worth two of the values they were fed, with every one between them, or none where they were fed none.
+pub fn extremes_stand() -> u8
+    ensures { λ _. ⌜ Reaches ⌝ }
+{
+    0
 }

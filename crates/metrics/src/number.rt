@@ -1,6 +1,6 @@
 //! How many values there were.
 ghost use mathlib.Core.Path.{_≡_};
-ghost use Rattle.metrics.specs.Numbers.{Counted, capped, one-more, added, number-worth};
+ghost use Rattle.metrics.specs.Numbers.{Counted, capped, one-more, added, number-worth, Counts};
 use crate::exact::Exact;
 use crate::joinable::Joinable;
 use crate::tally::Tally;
@@ -73,4 +73,11 @@ pub impl Exact for Number as NumberIsExact {
     fn exact_stands() -> u8 {
         0
     }
+}
+
+/// A Number is worth how many values it was fed, at most 2^64 − 1.
+pub fn number_stands() -> u8
+    ensures { λ _. ⌜ Counts ⌝ }
+{
+    0
 }
