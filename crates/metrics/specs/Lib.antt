@@ -1,0 +1,5 @@
+pub mod Cases
+pub mod Ends
+pub mod Numbers
+pub mod Sums
+pub mod Tallies
