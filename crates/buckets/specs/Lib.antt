@@ -1,3 +1,4 @@
+pub mod Grids
 pub mod Picks
 pub mod Ranges
 pub mod Tilings

@@ -1,4 +1,6 @@
-//! Tilings of range levels and grids of histogram levels.
+//! Tilings of range levels, grids of histogram levels, and the checks of their requests.
+pub mod grid;
+pub mod histogram;
 pub mod range;
-pub mod tiling;
 pub mod tiles;
+pub mod tiling;
