@@ -1,0 +1,2 @@
+//! The model of a stack of collectors, and the interfaces of its levels and caches.
+pub mod model;
