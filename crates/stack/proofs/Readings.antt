@@ -156,12 +156,12 @@ unfolding readings
 readings-past g [] s p = refl
 readings-past g (d ∷ ds) s p = readings-past g ds s p
 
+pub readings-none : (ls : List Lvl) (g : Seg) (p : List ℤ) → readings ls g [] p ≡ 0
+unfolding readings
+readings-none ls g p = refl
+
 readings-copies : (ls : List Lvl) (g : Seg) (n d : ℕ) (p : List ℤ) → readings ls g (replicate n d) p ≡ n * readings ls g (d ∷ []) p
-readings-copies ls g zero d p = readings-none ls g p
-  where
-    readings-none : (ls : List Lvl) (g : Seg) (p : List ℤ) → readings ls g [] p ≡ 0
-    unfolding readings
-    readings-none ls g p = refl
+readings-copies ls g zero d p = readings-none ls g p ∙ omega arith
 readings-copies ls g (suc n) d p = readings-append ls g (d ∷ []) (replicate n d) p ∙ ap (λ (m : ℕ). readings ls g (d ∷ []) p + m) (readings-copies ls g n d p) ∙ omega arith
 
 product : (ls : List Lvl) (g : Seg) (d : ℕ) (p : List ℤ) → readings ls g (d ∷ []) p ≡ chain-count ls g d p
