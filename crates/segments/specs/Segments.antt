@@ -12,8 +12,8 @@ use Rattle.std.specs.Finite.{nth}
 use Rattle.std.specs.Vec.{listOf}
 use Rattle.records.specs.declared.column_type.ColumnType.{ColumnType}
 
--- A segment: documents are numbered from 0; a column is known if it has a type; `held` is what is stored for a column
--- and a document.
+-- A segment: so many documents, numbered from 0 and fewer than 2^32, as a u32 answers their number; columns, known if
+-- they have a type; and what is stored for a column and a document.
 pub record Seg : Type 0 where
   pub docs : ℕ
   pub column-type : ℕ → Option ColumnType

@@ -6,7 +6,11 @@ ghost use Rattle.segments.specs.Segments.{Seg, values, Reading};
 use records::column_type::ColumnType;
 
 /// Documents with columns of values. Every question leaves the segment unaltered and always answers alike.
-pub trait Segment {
+///
+/// A segment is a small view that can be copied: a loop that reads much copies it to a local first, `let seg = *seg;`,
+/// so that its fields stay in registers beside what the loop writes.
+pub trait Segment: Copy {
+    /// What the segment holds.
     ghost means: { Self → Seg };
 
     /// How many documents there are; they are numbered from 0.
