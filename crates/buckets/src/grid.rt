@@ -1,11 +1,11 @@
 //! The grid of a histogram: which slot a value lies in, and where a slot begins.
 ghost use mathlib.Core.Path.{_≡_};
 ghost use Rattle.buckets.specs.Grids.{slot-of, key-of, grid-of, counted, position-of, Rising, Sound-if-accepted, Nan-uncounted};
+use crate::histogram::HistogramAggregation;
+use crate::histogram::HistogramBounds;
 use numbers::whole::floor_i64;
 use records::column_type::ColumnType;
 use std::num::nearest_i64_to_f64;
-use crate::histogram::HistogramAggregation;
-use crate::histogram::HistogramBounds;
 
 /// The slot of a number: floor((val − offset) / interval), each operation rounded once, made an i64 by the nearest one in
 /// range. A NaN gives 0.

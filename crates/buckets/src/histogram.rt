@@ -48,7 +48,10 @@ pub struct HistogramAggregation {
     pub extended_bounds: Option<HistogramBounds>,
 }
 
-fn bounds_in_unit(bounds: Option<HistogramBounds>, field_type: ColumnType) -> Option<HistogramBounds>
+fn bounds_in_unit(
+    bounds: Option<HistogramBounds>,
+    field_type: ColumnType,
+) -> Option<HistogramBounds>
     ensures { λ r. ⌜ r ≡ mapped (in-unit-bounds «field_type») bounds ⌝ }
 {
     match bounds {
