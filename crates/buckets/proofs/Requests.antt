@@ -39,8 +39,8 @@ finite-or-zero : (o : Option Float) → bad-offset o ≡ false → T (Floats.fin
 finite-or-zero None h = subst (λ (x : Float). T (Floats.finite x)) (sym zero-is) (unfold Floats.finite in tt)
 finite-or-zero (Some x) h = as-true (grind (arith, tells))
 
-no-reason : (a b c d e : Bool) → (not a || b || c || d || e) ≡ false → (a ≡ true) × (b ≡ false) × (c ≡ false)
-no-reason a b c d e h = (grind (arith, tells), grind (arith, tells), grind (arith, tells))
+no-reason : (a b c d e : Bool) → (not a || b || c || d || e) ≡ false → (a ≡ true) × (b ≡ false) × (c ≡ false) × (d ≡ false) × (e ≡ false)
+no-reason a b c d e h = (grind (arith, tells), grind (arith, tells), grind (arith, tells), grind (arith, tells), grind (arith, tells))
 
 pub sound : Sound-if-accepted
 sound t q h =
@@ -52,6 +52,8 @@ sound t q h =
       interval-finite = as-true (n .0);
       interval-above = as-true (ap (λ (z : Float). lt z (u .interval)) zero-is ∙ a);
       offset-finite = finite-or-zero (u .offset) (n .2);
+      hard-numbers = n .3;
+      extended-numbers = n .4;
     }
 
 le-nan : (x : Float) → le x nan ≡ false

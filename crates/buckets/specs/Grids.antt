@@ -99,11 +99,13 @@ grid-refusal t q =
 
 -- ---- laws
 
--- the numbers of a grid are of use: the interval is finite and above 0, the offset finite
+-- the numbers of a grid are of use: the interval is finite and above 0, the offset finite, and no bound a NaN
 pub record Sound (g : Grid) : Type 0 where
   pub interval-finite : T (Floats.finite (g .interval))
   pub interval-above : T (lt zero (g .interval))
   pub offset-finite : T (Floats.finite (g .offset))
+  pub hard-numbers : bad-bounds (g .«hard_bounds») ≡ false
+  pub extended-numbers : bad-bounds (g .«extended_bounds») ≡ false
 
 -- the grid of a request that is not refused is sound
 abbrev pub Sound-if-accepted : Type 0

@@ -83,7 +83,7 @@ pub fn slots_rise_stands() -> u8
     0
 }
 
-/// A request that is not refused has a grid with a finite interval above 0 and a finite offset.
+/// A request that is not refused has a grid with a finite interval above 0, a finite offset and no NaN for a bound.
 pub fn accepted_grid_stands() -> u8
     ensures { λ _. ⌜ Sound-if-accepted ⌝ }
 {
