@@ -10,13 +10,10 @@ use Rattle.std.specs.Floats as Floats
 use Rattle.std.specs.Options.{valueOr}
 use Rattle.std.specs.declared.option.Option.{Option}
 use Rattle.std.specs.declared.option.Option.the-variants.{Some, None}
-use Rattle.records.specs.declared.column_type.ColumnType.{ColumnType}
 use Rattle.records.specs.declared.fault.Refusal.{Refusal}
 use Rattle.numbers.proofs.Wholes.{as-true}
 use Rattle.buckets.specs.declared.histogram.HistogramBounds.{HistogramBounds}
-use Rattle.buckets.specs.declared.histogram.HistogramAggregation.{HistogramAggregation}
-use Rattle.buckets.specs.declared.grid.Grid.{Grid}
-use Rattle.buckets.specs.Grids.{zero, counted, slot-of, in-unit, bad-grid, bad-offset, bad-bounds, Sound, Sound-if-accepted, Nan-uncounted}
+use Rattle.buckets.specs.Grids.{zero, counted, slot-of, in-unit, bad-grid, bad-offset, bad-bounds, Sound-if-accepted, Nan-uncounted}
 use Rattle.buckets.proofs.Slots.{zero-is}
 
 not-first : (a : Bool) (r : Refusal) (o : Option Refusal) → cond a (Some r) o ≡ None → a ≡ false

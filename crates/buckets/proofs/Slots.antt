@@ -1,18 +1,18 @@
 -- Why a larger number is in no lower slot: subtraction, division by a positive number and the floor each keep the order.
 use mathlib.Core.Path.{_≡_, refl, sym, ap, _∙_, subst}
 use mathlib.Core.Logic.{_⊎_, inl, inr}
-use mathlib.Core.Bool.{Bool, true, false, not, cond, _&&_, _||_, Bool·beq, true≢false}
-use Prim.Native.Nat.{ℕ, zero, suc, _+_, _-_, _*_, _/_, _^_, _≤_, _<_, min}
+use mathlib.Core.Bool.{Bool, true, false, not, cond, _||_}
+use Prim.Native.Nat.{ℕ, zero, suc, _+_, _-_, _*_, _/_, _^_, _≤_, _<_}
 use native.Mathlib.Nat.{mul-le-mul-right, le-of-mul-le-mul-right, le-mul-of-pos-right, mul-pos, zero-div, zero-lt-suc}
 use native.Mathlib.Omega.{arith}
-use lib.Dec.{T, eqb, ltb, leb, ltb→lt, lt→ltb}
-use lib.IntN.{ℤ, pos, negsuc, negℤ}
+use lib.Dec.{T, eqb, ltb, ltb→lt, lt→ltb}
+use lib.IntN.{ℤ, pos, negℤ}
 use lib.Signed.{_≤ℤ_}
 use borrow.Author.Tests.{lt-ltb, le-ltb, ne-eqb}
 use Rattle.std.proofs.shelf.Tests.{cases-lt, ltb-true}
 use Rattle.std.proofs.shelf.Ways.{tells}
 use Rattle.std.proofs.shelf.Signed.{ints}
-use lib.Ieee.{Float, lt, ofBits, nan, inf, fin, Format, binary64, up, down, round, neg, sum, add, sub, div, le, below, level, unlike}
+use lib.Ieee.{Float, lt, ofBits, nan, inf, fin, binary64, up, down, round, neg, sum, add, sub, div, le, below, level, unlike}
 use lib.Ieee.Bits.{is-true}
 use lib.Ieee.Fits.{up-pos, down-pos}
 use lib.Ieee.Nearest.{div-mono}
@@ -20,16 +20,13 @@ use lib.Ieee.Order.{round-mono}
 use lib.Ieee.Positive.{positive}
 use lib.Ieee.Scale.{round-same, finite}
 use Rattle.std.specs.Floats as Floats
-use Rattle.std.specs.declared.option.Option.{Option}
-use Rattle.std.specs.declared.option.Option.the-variants.{Some, None}
-use Rattle.records.specs.declared.column_type.ColumnType.{ColumnType}
 use Rattle.numbers.specs.Whole.{part, over, floor-i64}
-use Rattle.numbers.proofs.Wholes.{as-true, over-reaches, over-least}
+use Rattle.numbers.proofs.Wholes.{over-reaches, over-least}
 use Rattle.numbers.proofs.Orders.{flip, opposite, round-neg, round-plain, Plain}
 use Rattle.buckets.specs.Grids as Grids
-use Rattle.buckets.specs.Grids.{slot-of, Rising}
+use Rattle.buckets.specs.Grids.{Rising}
 
--- ---- ±a as the difference of two naturals
+-- ---- ±a as the difference of two naturals, so that orders are of naturals
 abbrev plus : Bool → ℕ → ℕ
 plus true a = 0
 plus false a = a
@@ -56,13 +53,14 @@ zero-level c d C D =
 nothing-left : (p n c : ℕ) → 0 < c → n ≤ p → p * c ≤ n * c → p - n ≡ 0
 nothing-left p n c C h k = omega (arith, le-of-mul-le-mul-right {m = p} {n = n} {k = c} k C)
 
+less-times : (x y z : ℕ) → y ≤ x → (x - y) * z + y * z ≡ x * z
+less-times x y z l = sym (native.Mathlib.Nat.add-mul (x - y) y z) ∙ ap (λ (q : ℕ). q * z) (omega arith)
+
+-- rounding keeps the order, across the signs too
 rounded-mono : (r r' : Float) (p n c p' n' c' : ℕ) → 0 < c → 0 < c' → Rounded r p n c → Rounded r' p' n' c' → p * c' + n' * c ≤ p' * c + n * c' → T (le r r')
 rounded-mono r r' p n c p' n' c' C C' (inl a) (inl b) h =
     let k : (p - n) * c' ≤ (p' - n') * c = omega (arith, less-times p n c' (a .0), less-times p' n' c (b .0)) in
     subst (λ (x : Float). T (le x r')) (sym (a .1)) (subst (λ (x : Float). T (le (round binary64 false (p - n) c) x)) (sym (b .1)) (round-mono binary64 (p - n) c (p' - n') c' C C' k))
-  where
-    less-times : (x y z : ℕ) → y ≤ x → (x - y) * z + y * z ≡ x * z
-    less-times x y z l = sym (native.Mathlib.Nat.add-mul (x - y) y z) ∙ ap (λ (q : ℕ). q * z) (omega arith)
 rounded-mono r r' p n c p' n' c' C C' (inr a) (inl b) h =
     subst (λ (x : Float). T (le x r')) (sym (a .1 ∙ round-neg binary64 (n - p) c))
     (subst (λ (x : Float). T (le (neg (round binary64 false (n - p) c)) x)) (sym (b .1)) (opposite _ _ (round-plain binary64 (n - p) c) (round-plain binary64 (p' - n') c')))
@@ -71,9 +69,6 @@ rounded-mono r r' p n c p' n' c' C C' (inr a) (inr b) h =
     subst (λ (x : Float). T (le x r')) (sym (a .1 ∙ round-neg binary64 (n - p) c))
     (subst (λ (x : Float). T (le (neg (round binary64 false (n - p) c)) x)) (sym (b .1 ∙ round-neg binary64 (n' - p') c'))
     (flip _ _ (round-mono binary64 (n' - p') c' (n - p) c C' C k)))
-  where
-    less-times : (x y z : ℕ) → y ≤ x → (x - y) * z + y * z ≡ x * z
-    less-times x y z l = sym (native.Mathlib.Nat.add-mul (x - y) y z) ∙ ap (λ (q : ℕ). q * z) (omega arith)
 rounded-mono r r' p n c p' n' c' C C' (inl a) (inr b) h =
     let k : p * c' ≤ n * c' = omega (arith, mul-le-mul-right c (b .0)) in
     let l : n' * c ≤ p' * c = omega (arith, mul-le-mul-right c' (a .0)) in
@@ -156,7 +151,7 @@ add-number : (s : Bool) (m : ℕ) (e : ℤ) (u : Bool) (q : ℕ) (g : ℤ) → N
 unfolding add
 add-number s m e u q g = rounded-number _ _ _ _ (sum-rounds s u (m * up e * down g) (q * up g * down e) (down e * down g))
 
--- ---- each operation keeps the order
+-- ---- each operation keeps the order: both results are rounded from differences in that order
 sub-mono : (x y o : Float) → T (finite o) → T (le x y) → T (le (sub binary64 x o) (sub binary64 y o))
 unfolding sub le neg add
 sub-mono x y nan f h = absurd f

@@ -1,8 +1,7 @@
 -- The grid of a histogram: slots of one length, `interval`, one of which begins at `offset`. Slot p holds the values v with
 -- floor((v - offset) / interval) = p, and begins at p * interval + offset.
 use mathlib.Core.Path.{_≡_}
-use mathlib.Core.Bool.{Bool, true, false, cond, not, _&&_, _||_}
-use Prim.Native.Nat.{ℕ}
+use mathlib.Core.Bool.{Bool, false, cond, not, _&&_, _||_}
 use lib.Dec.{T, ltb}
 use lib.IntN.{ℤ}
 use lib.Signed.{_≤ℤ_}
