@@ -1,0 +1,2 @@
+//! The interface of a level's table of rows.
+pub mod table;
