@@ -92,7 +92,7 @@ pub trait SubAggCache {
         level: u32,
     )
         ensures plans { λ _. ⌜ (refused (now (request .entry)) (now (ranges .entry)) (means (now (seg .entry)) .column-type) level ≡ None → plan (now (self .exit)) ≡ asked (now (request .entry)) (now (ranges .entry)) (means (now (seg .entry)) .column-type)) ⌝ }
-        ensures empties { λ _. ⌜ ((g : Seg) → (buckets : ℕ) → stored (now (self .exit)) (now (slots .exit)) g level buckets none-yet) × (made (now (self .exit)) ≡ 0) × (pending (now (self .exit)) ≡ 0) ⌝ };
+        ensures empties { λ _. ⌜ (level + length (plan (now (self .exit)) .levels) < 2 ^ 32 → (g : Seg) → (buckets : ℕ) → stored (now (self .exit)) (now (slots .exit)) g level buckets none-yet) × (made (now (self .exit)) ≡ 0) × (pending (now (self .exit)) ≡ 0) ⌝ };
 
     /// Whether no pair more finds room. Some list of at most 2,048 pairs, for buckets below 512, is what waits.
     fn is_full(&self) -> bool

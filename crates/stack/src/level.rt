@@ -86,7 +86,7 @@ pub trait SegmentAggregationCollector {
         level: u32,
     )
         ensures plans { λ _. ⌜ (refused (now (request .entry)) (now (ranges .entry)) (means (now (seg .entry)) .column-type) level ≡ None → plan (now (self .exit)) ≡ asked (now (request .entry)) (now (ranges .entry)) (means (now (seg .entry)) .column-type)) ⌝ }
-        ensures empties { λ _. ⌜ ((g : Seg) → (buckets : ℕ) → holds (now (self .exit)) (now (slots .exit)) g level buckets none-yet) × (made (now (self .exit)) ≡ 0) ⌝ };
+        ensures empties { λ _. ⌜ (level + length (plan (now (self .exit)) .levels) < 2 ^ 32 → (g : Seg) → (buckets : ℕ) → holds (now (self .exit)) (now (slots .exit)) g level buckets none-yet) × (made (now (self .exit)) ≡ 0) ⌝ };
 
     /// Takes the documents for a bucket.
     fn collect<S: Segment>(
