@@ -99,3 +99,7 @@ placed-at F b (Some s) d = placed F b s d
 abbrev pub step-at : (ℕ → Option ℤ) → Option ℕ → Option ℤ
 step-at step None = None
 step-at step (Some v) = step v
+
+-- a row stands below every bucket at every step where one always does
+abbrev pub Standing : Table → ℕ → Type 0
+Standing t buckets = (b : ℕ) (s : ℤ) → b < buckets → Always (t .level) s → Has t b s

@@ -1,19 +1,20 @@
 //! A level with rows.
 ghost use mathlib.Core.Path.{_≡_};
-ghost use mathlib.Core.List.{List, [], _∷_};
-ghost use mathlib.Core.Logic.{_⊎_};
-ghost use Prim.Native.Nat.{ℕ, suc, _+_, _-_, _^_, _<_, _≤_};
+ghost use mathlib.Core.List.{List, [], _∷_, _++_};
+ghost use Prim.Native.Nat.{ℕ, suc, _+_, _<_, _≤_};
 ghost use lib.ListN.{length};
 ghost use Rattle.std.specs.Finite.{nth};
-ghost use Rattle.std.specs.Options.{orOther};
-ghost use Rattle.segments.specs.Segments.{values};
+ghost use Rattle.std.specs.Options.{orOther, Cases as BySome};
 ghost use Rattle.std.specs.Results.{Cases};
-ghost use Rattle.records.specs.declared.fault.Refusal.the-variants.{CountOverflow};
-ghost use Rattle.stack.specs.Levels.{steps, step-of, values-of};
-ghost use Rattle.stack.specs.Overruns.{added, numbered, fault};
-ghost use Rattle.stack.specs.Calls.{Went, Overran, Stopped};
-ghost use Rattle.rows.specs.Tables.{Has, Always, Counted};
-ghost use Rattle.collectors.specs.Filing.{step-at, Carries, Rows, Filed, sorted, placed, on-top, Put-refused, At, Sent, Missed, placed-at, placed-all};
+ghost use Rattle.records.specs.Paths.{steps-of};
+ghost use Rattle.records.specs.Rows.{Entry};
+ghost use Rattle.segments.specs.Segments.{Seg, values};
+ghost use Rattle.stack.specs.Levels.{steps, step-of};
+ghost use Rattle.stack.specs.Overruns.{Deliveries, added, numbered};
+ghost use Rattle.stack.specs.Calls.{Went};
+ghost use Rattle.stack.specs.Writing.{above-steps, row-worth, Written, Put};
+ghost use Rattle.rows.specs.Tables.{Counted};
+ghost use Rattle.collectors.specs.Filing.{step-at, Carries, Rows, sorted, on-top, Put-refused, At, Sent, Missed, Standing, placed-at, placed-all};
 use buckets::range::RangeAggregationRange;
 use limits::agg_limits::AggregationLimits;
 use metrics::tally::Tally;
@@ -123,4 +124,157 @@ fn spread<K: RowTable, C: SubAggCache, S: Segment>(
         place_nth(inner, below, seg, limits, slots, bucket, column, doc, i)?;
     }
     Ok(())
+}
+
+/// The path of a row's step below a path, or at the top; none where the path has no room.
+fn path_below(above: Option<Path>, step: i64) -> Option<Path>
+    ensures { λ r. ⌜ BySome r (3 ≤ length (above-steps above)) (λ p. steps-of p ≡ above-steps above ++ (step ∷ [])) ⌝ }
+{
+    match above {
+        None => Some(Path::first(step)),
+        Some(path) => path.extended(step),
+    }
+}
+
+/// Writes a row, and the rows below it.
+fn write_row<K: RowTable, C: SubAggCache>(
+    inner: &K,
+    below: &C,
+    slots: &[C::Fruit],
+    above: Option<Path>,
+    row: usize,
+    out: &mut [Row<C::Fruit>],
+    at: usize,
+) -> usize
+    ensures { λ r. ⌜ ((g : Seg) (n : ℕ) (E : Deliveries) → row < K·RowTable .table (now (inner .entry)) .rows → C·SubAggCache .rests (now (below .entry)) → C·SubAggCache .prepared (now (below .entry)) (length (now (slots .entry))) (K·RowTable .table (now (inner .entry)) .rows) → C·SubAggCache .stored (now (below .entry)) (now (slots .entry)) g n (K·RowTable .table (now (inner .entry)) .rows) E → length (above-steps above) + suc (length (C·SubAggCache .plan (now (below .entry)) .levels)) ≤ 3 → (es : List (Entry (Fruit·Tally .Worth))) × (Written record { nothing = Fruit·Tally .nothing; fed = Fruit·Tally .fed } (C·SubAggCache .plan (now (below .entry)) .column) (C·SubAggCache .plan (now (below .entry)) .field-type) g (C·SubAggCache .plan (now (below .entry)) .levels) (above-steps above ++ (K·RowTable .table (now (inner .entry)) .step row ∷ [])) (E row) es × (at + suc (length es) ≤ length (now (out .entry)) → Put (Fruit·Tally .worth) (now (out .entry)) (now (out .exit)) at r (record { path = above-steps above ++ (K·RowTable .table (now (inner .entry)) .step row ∷ []); count = K·RowTable .table (now (inner .entry)) .count row; worth = row-worth record { nothing = Fruit·Tally .nothing; fed = Fruit·Tally .fed } (C·SubAggCache .plan (now (below .entry)) .levels) (C·SubAggCache .plan (now (below .entry)) .column) (C·SubAggCache .plan (now (below .entry)) .field-type) g (E row) } ∷ es)))) ⌝ }
+{
+    let Some(path) = path_below(above, inner.step_of(row)) else {
+        return at;
+    };
+    if row >= 512 {
+        return at;
+    }
+    let bucket = row as u32;
+    if at < out.len() {
+        out[at] = Row {
+            path,
+            count: inner.count_of(row),
+            tally: below.tally_of(slots, bucket),
+        };
+    }
+    below.write_rows(slots, Some(path), bucket, out, at.saturating_add(1))
+}
+
+pub impl<K: RowTable, C: SubAggCache> SegmentAggregationCollector for SegmentBucketCollector<K, C> as BucketCollectorIsLevel {
+    type Request = LevelRequest<K::Request, C::Request>;
+    type Fruit = C::Fruit;
+
+    ghost plan = { λ c. on-top (K·RowTable .table (c .inner) .level) (C·SubAggCache .plan (c .below)) };
+
+    ghost asked = { λ q ranges types. on-top (K·RowTable .asked (q .level) ranges types) (C·SubAggCache .asked (q .below) ranges types) };
+
+    ghost refused = { λ q ranges types n. orOther (K·RowTable .refused (q .level) ranges types n) (C·SubAggCache .refused (q .below) ranges types (numbered (n + 1))) };
+
+    ghost holds = { λ c slots g n b D. At (K·RowTable .table (c .inner)) (C·SubAggCache .stored (c .below) slots g) (C·SubAggCache .waiting (c .below)) n b (sorted (K·RowTable .table (c .inner) .level) g D) };
+
+    ghost settled = { λ c. (C·SubAggCache .pending (c .below) ≡ 0) × C·SubAggCache .rests (c .below) };
+
+    ghost prepared = { λ c slots buckets. Standing (K·RowTable .table (c .inner)) buckets × C·SubAggCache .prepared (c .below) slots (K·RowTable .table (c .inner) .rows) };
+
+    ghost made = { λ c. K·RowTable .table (c .inner) .rows + C·SubAggCache .made (c .below) };
+
+    fn check<S: Segment>(
+        request: &LevelRequest<K::Request, C::Request>,
+        ranges: &[RangeAggregationRange],
+        seg: &S,
+        level: u32,
+    ) -> Result<(), Fault> {
+        K::check(&request.level, ranges, seg, level)?;
+        C::check(&request.below, ranges, seg, level.saturating_add(1))?;
+        Ok(())
+    }
+
+    fn reset<S: Segment>(
+        &mut self,
+        request: &LevelRequest<K::Request, C::Request>,
+        ranges: &[RangeAggregationRange],
+        seg: &S,
+        slots: &mut [C::Fruit],
+        level: u32,
+    ) {
+        self.inner.reset(&request.level, ranges, seg, level);
+        self.below.reset(&request.below, ranges, seg, slots, level.saturating_add(1));
+    }
+
+    fn collect<S: Segment>(
+        &mut self,
+        seg: &S,
+        limits: &mut AggregationLimits,
+        slots: &mut [C::Fruit],
+        bucket: u32,
+        docs: &[u32],
+    ) -> Result<(), Fault> {
+        for doc in docs {
+            spread(&mut self.inner, &mut self.below, seg, limits, slots, bucket, *doc)?;
+        }
+        ease(&mut self.below, seg, limits, slots)?;
+        Ok(())
+    }
+
+    fn flush<S: Segment>(
+        &mut self,
+        seg: &S,
+        limits: &mut AggregationLimits,
+        slots: &mut [C::Fruit],
+    ) -> Result<(), Fault> {
+        self.below.flush(seg, limits, slots)?;
+        Ok(())
+    }
+
+    fn prepare_max_bucket(
+        &mut self,
+        limits: &mut AggregationLimits,
+        slots: &[C::Fruit],
+        buckets: u32,
+    ) -> Result<(), Fault> {
+        self.inner.prepare(limits, buckets)?;
+        let rows = self.inner.num_rows() as u32;
+        self.below.prepare_max_bucket(limits, slots, rows)?;
+        Ok(())
+    }
+
+    fn num_rows(&self) -> Option<usize> {
+        match self.below.num_rows() {
+            None => None,
+            Some(below) => self.inner.num_rows().checked_add(below),
+        }
+    }
+
+    fn tally_of(&self, _slots: &[C::Fruit], _bucket: u32) -> C::Fruit {
+        <C::Fruit as Tally>::empty()
+    }
+
+    fn write_rows(
+        &self,
+        slots: &[C::Fruit],
+        above: Option<Path>,
+        bucket: u32,
+        out: &mut [Row<C::Fruit>],
+        at: usize,
+    ) -> usize {
+        let mut end = at;
+        let mut index = 0;
+        while let Some(row) = self.inner.row_at(bucket, index) {
+            end = write_row(&self.inner, &self.below, slots, above, row, out, end);
+            index += 1;
+        }
+        end
+    }
+
+    fn kind_at(&self, down: u32) -> Option<Kind> {
+        if down == 0 {
+            return Some(self.inner.kind());
+        }
+        self.below.kind_at(down - 1)
+    }
 }
