@@ -1,0 +1,219 @@
+//! The bottom of a stack: the tallies of the last level's rows.
+ghost use mathlib.Core.Path.{_≡_};
+ghost use Prim.Native.Nat.{_≤_};
+ghost use lib.ListN.{length};
+ghost use Rattle.records.specs.declared.column_type.ColumnType.the-variants.{U64};
+ghost use Rattle.records.specs.declared.fault.Refusal.the-variants.{TooManyRows};
+ghost use Rattle.metrics.specs.Tallies.{fed-all};
+ghost use Rattle.segments.specs.Segments.{values};
+ghost use Rattle.stack.specs.Levels.{values-of};
+ghost use Rattle.stack.specs.Overruns.{numbered};
+ghost use Rattle.stack.specs.Writing.{Feeding};
+ghost use Rattle.bottom.specs.Bottoms.{bottom-plan, type-or-u64, unknown-column, Slots};
+use buckets::range::RangeAggregationRange;
+use limits::agg_limits::AggregationLimits;
+use metrics::tally::Tally;
+use records::column_type::ColumnType;
+use records::fault::Fault;
+use records::fault::Refusal;
+use records::kind::Kind;
+use records::path::Path;
+use records::row::Row;
+use segments::segment::Segment;
+use stack::level::SegmentAggregationCollector;
+use std::marker::PhantomData;
+
+/// What is asked of the bottom: the column that the tallies are fed from.
+#[derive(Clone, Copy)]
+pub struct MetricRequest {
+    pub column: u32,
+}
+
+/// The bottom of a stack: one tally for each row of the last level, in the slots that are lent with each call.
+///
+/// The slots are the limit: a bucket past them is refused. Their rows are those of the level above and are not charged
+/// again.
+#[derive(Clone, Copy)]
+pub struct SegmentMetricCollector<T> {
+    number: u32,
+    column: u32,
+    field_type: ColumnType,
+    tallies: PhantomData<T>,
+}
+
+impl<T> SegmentMetricCollector<T> {
+    /// A bottom that no request was given to yet: it reads column 0 as U64, and has no number.
+    pub fn new() -> SegmentMetricCollector<T>
+        ensures { λ r. ⌜ (r .number ≡ 0) × (bottom-plan (r .column) (r .«field_type») ≡ bottom-plan 0 U64) ⌝ }
+    {
+        SegmentMetricCollector {
+            number: 0,
+            column: 0,
+            field_type: ColumnType::U64,
+            tallies: PhantomData,
+        }
+    }
+
+    /// The refusal of a bucket past the slots.
+    fn too_many_rows(&self) -> Fault
+        ensures { λ r. ⌜ r ≡ record { refusal = TooManyRows; level = now (self .entry) .number; place = 0 } ⌝ }
+    {
+        Fault {
+            refusal: Refusal::TooManyRows,
+            level: self.number,
+            place: 0,
+        }
+    }
+}
+
+/// Feeds a tally the values of a document, first to last.
+fn feed_doc<T: Tally, S: Segment>(
+    slot: &mut T,
+    seg: &S,
+    column: u32,
+    field_type: ColumnType,
+    doc: u32,
+)
+    ensures { λ _. ⌜ T·Tally .worth (now (slot .exit)) ≡ fed-all (T·Tally .fed) «field_type» (values (S·Segment .means (now (seg .entry))) column doc) (T·Tally .worth (now (slot .entry))) ⌝ }
+{
+    for index in 0..seg.num_values(column, doc) {
+        if let Some(val) = seg.value_at(column, doc, index) {
+            slot.feed(field_type, val);
+        }
+    }
+}
+
+/// Feeds a tally the values of each document, first to last.
+fn feed_docs<T: Tally, S: Segment>(
+    slot: &mut T,
+    seg: &S,
+    column: u32,
+    field_type: ColumnType,
+    docs: &[u32],
+)
+    ensures { λ _. ⌜ T·Tally .worth (now (slot .exit)) ≡ fed-all (T·Tally .fed) «field_type» (values-of (S·Segment .means (now (seg .entry))) column (now (docs .entry))) (T·Tally .worth (now (slot .entry))) ⌝ }
+{
+    let seg = *seg;
+    for doc in docs {
+        feed_doc(slot, &seg, column, field_type, *doc);
+    }
+}
+
+pub impl<T: Tally> SegmentAggregationCollector for SegmentMetricCollector<T> as MetricIsCollector {
+    type Request = MetricRequest;
+    type Fruit = T;
+
+    ghost plan = { λ c. bottom-plan (c .column) (c .«field_type») };
+
+    ghost asked = { λ request ranges types. bottom-plan (request .column) (type-or-u64 (types (request .column))) };
+
+    ghost refused = { λ request ranges types n. unknown-column (types (request .column)) n };
+
+    ghost holds = { λ c slots g n buckets D. (c .number ≡ numbered n) × Slots (T·Tally .worth) record { nothing = T·Tally .nothing; fed = T·Tally .fed } (bottom-plan (c .column) (c .«field_type»)) g slots D };
+
+    ghost settled = { λ c. Unit {0} };
+
+    ghost prepared = { λ c slots buckets. buckets ≤ slots };
+
+    ghost made = { λ c. 0 };
+
+    fn check<S: Segment>(
+        request: &MetricRequest,
+        _ranges: &[RangeAggregationRange],
+        seg: &S,
+        level: u32,
+    ) -> Result<(), Fault> {
+        match seg.column_type(request.column) {
+            Some(_) => Ok(()),
+            None => Err(Fault {
+                refusal: Refusal::UnknownColumn,
+                level,
+                place: 0,
+            }),
+        }
+    }
+
+    fn reset<S: Segment>(
+        &mut self,
+        request: &MetricRequest,
+        _ranges: &[RangeAggregationRange],
+        seg: &S,
+        slots: &mut [T],
+        level: u32,
+    ) {
+        self.number = level;
+        self.column = request.column;
+        self.field_type = match seg.column_type(request.column) {
+            Some(field_type) => field_type,
+            None => ColumnType::U64,
+        };
+        for at in 0..slots.len() {
+            slots[at] = T::empty();
+        }
+    }
+
+    fn collect<S: Segment>(
+        &mut self,
+        seg: &S,
+        _limits: &mut AggregationLimits,
+        slots: &mut [T],
+        bucket: u32,
+        docs: &[u32],
+    ) -> Result<(), Fault> {
+        let at = bucket as usize;
+        if at >= slots.len() {
+            return Err(self.too_many_rows());
+        }
+        feed_docs(&mut slots[at], seg, self.column, self.field_type, docs);
+        Ok(())
+    }
+
+    fn flush<S: Segment>(
+        &mut self,
+        _seg: &S,
+        _limits: &mut AggregationLimits,
+        _slots: &mut [T],
+    ) -> Result<(), Fault> {
+        Ok(())
+    }
+
+    fn prepare_max_bucket(
+        &mut self,
+        _limits: &mut AggregationLimits,
+        slots: &[T],
+        buckets: u32,
+    ) -> Result<(), Fault> {
+        if buckets as usize > slots.len() {
+            return Err(self.too_many_rows());
+        }
+        Ok(())
+    }
+
+    fn num_rows(&self) -> Option<usize> {
+        Some(0)
+    }
+
+    fn tally_of(&self, slots: &[T], bucket: u32) -> T {
+        let at = bucket as usize;
+        if at < slots.len() {
+            slots[at]
+        } else {
+            T::empty()
+        }
+    }
+
+    fn write_rows(
+        &self,
+        _slots: &[T],
+        _above: Option<Path>,
+        _bucket: u32,
+        _out: &mut [Row<T>],
+        at: usize,
+    ) -> usize {
+        at
+    }
+
+    fn kind_at(&self, _down: u32) -> Option<Kind> {
+        None
+    }
+}
