@@ -61,20 +61,20 @@ slots-fed worth f plan g slots b ds x y h e D s =
     let feeds : List ℕ → _ = λ docs. fed-all (f .fed) t (vals docs) (f .nothing) in
     record {
       inside = λ k d l.
-        let within : k < length slots = subst (λ (n : ℕ). k < n) (length-set slots b y) l in
-        elim (cases-eq k b) [
-          | inl q ↦ subst (λ (j : ℕ). worth (getD (set slots b y) j d) ≡ feeds (added D b ds j)) (sym q)
-              (ap worth (getD-set-same slots b y d h)
-              ∙ e
-              ∙ ap (fed-all (f .fed) t (vals ds)) (s .inside b x h)
-              ∙ sym (fed-more (f .fed) t (vals (D b)) (vals ds) (f .nothing))
-              ∙ ap (λ vs. fed-all (f .fed) t vs (f .nothing)) (sym (values-more g (plan .column) (D b) ds))
-              ∙ ap feeds (sym (added-same D b ds)))
-          | inr q ↦ ap worth (getD-set-other slots b k y d q) ∙ s .inside k d within ∙ ap feeds (sym (added-other D b k ds q))
-        ];
+          let within : k < length slots = subst (λ (n : ℕ). k < n) (length-set slots b y) l in
+          elim (cases-eq k b) [
+            | inl q ↦ subst (λ (j : ℕ). worth (getD (set slots b y) j d) ≡ feeds (added D b ds j)) (sym q)
+                (ap worth (getD-set-same slots b y d h)
+                ∙ e
+                ∙ ap (fed-all (f .fed) t (vals ds)) (s .inside b x h)
+                ∙ sym (fed-more (f .fed) t (vals (D b)) (vals ds) (f .nothing))
+                ∙ ap (λ vs. fed-all (f .fed) t vs (f .nothing)) (sym (values-more g (plan .column) (D b) ds))
+                ∙ ap feeds (sym (added-same D b ds)))
+            | inr q ↦ ap worth (getD-set-other slots b k y d q) ∙ s .inside k d within ∙ ap feeds (sym (added-other D b k ds q))
+          ];
       outside = λ k l.
-        let past : length slots ≤ k = subst (λ (n : ℕ). n ≤ k) (length-set slots b y) l in
-        added-other D b k ds (λ q. omega (arith, q, past, h)) ∙ s .outside k past;
+          let past : length slots ≤ k = subst (λ (n : ℕ). n ≤ k) (length-set slots b y) l in
+          added-other D b k ds (λ q. omega (arith, q, past, h)) ∙ s .outside k past;
     }
 
 -- their numbers differ
@@ -86,7 +86,7 @@ pub refused-past : (column : ℕ) (t : ColumnType) (slots past number : ℕ) (g 
     → slots < past → ((buckets : ℕ) → inside buckets → past ≤ buckets) → ((n buckets : ℕ) (D : Deliveries) → holds n buckets D → number ≡ numbered n)
     → f ≡ record { refusal = TooManyRows; level = number; place = 0 } → Overran 1 (bottom-plan column t) slots g holds inside grows limits limits 0 0 f
 refused-past column t slots past number g holds inside grows limits f h i number-is e = record {
-    stopped = record { same-limit = refl; grown = omega arith; paid = for-rows (λ q. apart (sym (ap (λ (x : Fault). x .refusal) e) ∙ q)) refl };
-    overrun = λ n buckets others D w a u.
+  stopped = record { same-limit = refl; grown = omega arith; paid = for-rows (λ q. apart (sym (ap (λ (x : Fault). x .refusal) e) ∙ q)) refl };
+  overrun = λ n buckets others D w a u.
       bottom-over slots n buckets past g (grows D) others (limits .limit) f (e ∙ ap (λ (k : ℕ). record { refusal = TooManyRows; level = k; place = 0 }) (number-is n buckets D a)) h (i buckets w);
-  }
+}

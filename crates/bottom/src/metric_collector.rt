@@ -101,6 +101,7 @@ fn feed_docs<T: Tally, S: Segment>(
 
 pub impl<T: Tally> SegmentAggregationCollector for SegmentMetricCollector<T> as MetricIsCollector {
     type Request = MetricRequest;
+
     type Fruit = T;
 
     ghost plan = { λ c. bottom-plan (c .column) (c .«field_type») };
@@ -215,5 +216,87 @@ pub impl<T: Tally> SegmentAggregationCollector for SegmentMetricCollector<T> as 
 
     fn kind_at(&self, _down: u32) -> Option<Kind> {
         None
+    }
+}
+
+#[cfg(test)]
+mod tests {
+    use super::*;
+    use metrics::extremes::Extremes;
+    use metrics::extremes::ExtremesIsTally;
+    use metrics::number::Number;
+    use metrics::number::NumberIsTally;
+    use records::fault::FaultDebug;
+    use records::fault::FaultPartialEq;
+    use segments::dense::DenseIsSegment;
+    use segments::dense::DenseSegment;
+    use segments::offset::OffsetIsSegment;
+    use segments::offset::OffsetSegment;
+    use std::test::*;
+
+    #[test]
+    fn a_repeated_document_is_fed_again() -> Result<(), Fail> {
+        let types = [ColumnType::U64];
+        let offsets = [0, 1, 1, 3];
+        let values = [3, 5, 1];
+        let seg = OffsetSegment {
+            num_docs: 3,
+            column_types: &types,
+            offsets: &offsets,
+            values: &values,
+        };
+        let mut limits = AggregationLimits { limit: 0, used: 0 };
+        let mut slots = [Number::empty(), Number::empty()];
+        let mut bottom = SegmentMetricCollector::<Number>::new();
+        bottom.reset(&MetricRequest { column: 0 }, &[], &seg, &mut slots, 2);
+        check(
+            bottom
+                .collect(&seg, &mut limits, &mut slots, 0, &[2, 1, 2])
+                .is_ok(),
+        )?;
+        check(
+            bottom
+                .collect(&seg, &mut limits, &mut slots, 1, &[0])
+                .is_ok(),
+        )?;
+        check_eq(bottom.tally_of(&slots, 0).count(), 4)?;
+        check_eq(bottom.tally_of(&slots, 1).count(), 1)
+    }
+
+    #[test]
+    fn a_bucket_past_the_slots_is_refused() -> Result<(), Fail> {
+        let types = [ColumnType::U64];
+        let values = [7, 4];
+        let seg = DenseSegment {
+            num_docs: 2,
+            column_types: &types,
+            values: &values,
+        };
+        let mut limits = AggregationLimits { limit: 0, used: 0 };
+        let mut slots = [Extremes::empty()];
+        let mut bottom = SegmentMetricCollector::<Extremes>::new();
+        bottom.reset(&MetricRequest { column: 0 }, &[], &seg, &mut slots, 3);
+        let past = Fault {
+            refusal: Refusal::TooManyRows,
+            level: 3,
+            place: 0,
+        };
+        check(
+            bottom
+                .collect(&seg, &mut limits, &mut slots, 0, &[1, 0, 1])
+                .is_ok(),
+        )?;
+        check_eq(
+            bottom.collect(&seg, &mut limits, &mut slots, 1, &[0]).err(),
+            Some(past),
+        )?;
+        check(bottom.prepare_max_bucket(&mut limits, &slots, 1).is_ok())?;
+        check_eq(
+            bottom.prepare_max_bucket(&mut limits, &slots, 2).err(),
+            Some(past),
+        )?;
+        check_eq(bottom.tally_of(&slots, 0).least(), Some(4))?;
+        check_eq(bottom.tally_of(&slots, 0).greatest(), Some(7))?;
+        check_eq(limits.used, 0)
     }
 }

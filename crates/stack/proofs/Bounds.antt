@@ -49,9 +49,9 @@ without-miss n x xs e = cond-false (eqb (x .0) n) (without n xs) (x ∷ without 
 low-without : (n : ℕ) (xs : List Place) → All (Low (suc n)) xs → All (Low n) (without n xs)
 low-without n [] a = tt
 low-without n (x ∷ xs) a = elim (cases-eq (x .0) n) [
-      | inl e ↦ subst (All (Low n)) (sym (without-hit n x xs e)) (low-without n xs (a .1))
-      | inr e ↦ subst (All (Low n)) (sym (without-miss n x xs e)) ((omega (arith, a .0 .0, e), a .0 .1), low-without n xs (a .1))
-    ]
+  | inl e ↦ subst (All (Low n)) (sym (without-hit n x xs e)) (low-without n xs (a .1))
+  | inr e ↦ subst (All (Low n)) (sym (without-miss n x xs e)) ((omega (arith, a .0 .0, e), a .0 .1), low-without n xs (a .1))
+]
 
 without-none : (n : ℕ) (xs : List Place) → All (λ y. y .0 ≡ n → ⊥) xs → without n xs ≡ xs
 without-none n [] a = refl
@@ -67,11 +67,11 @@ low-same n k x y a b e = ap₂ (λ i j. (i, j)) e (nil-of (x .1) (a .1) ∙ sym 
 length-without : (n k : ℕ) (xs : List Place) → All (Low k) xs → Distinct xs → length xs ≤ suc (length (without n xs))
 length-without n k [] a d = omega arith
 length-without n k (x ∷ xs) a d = elim (cases-eq (x .0) n) [
-      | inl e ↦
-          let others = all-imp (λ y. (x ≡ y → ⊥) × Low k y) (λ y. y .0 ≡ n → ⊥) xs (λ y h f. h .0 (low-same k k x y (a .0) (h .1) (e ∙ sym f))) (all-both (λ y. x ≡ y → ⊥) (Low k) xs (d .0) (a .1)) in
-          omega (arith, ap length (without-hit n x xs e), ap length (without-none n xs others))
-      | inr e ↦ omega (arith, ap length (without-miss n x xs e), length-without n k xs (a .1) (d .1))
-    ]
+  | inl e ↦
+      let others = all-imp (λ y. (x ≡ y → ⊥) × Low k y) (λ y. y .0 ≡ n → ⊥) xs (λ y h f. h .0 (low-same k k x y (a .0) (h .1) (e ∙ sym f))) (all-both (λ y. x ≡ y → ⊥) (Low k) xs (d .0) (a .1)) in
+      omega (arith, ap length (without-hit n x xs e), ap length (without-none n xs others))
+  | inr e ↦ omega (arith, ap length (without-miss n x xs e), length-without n k xs (a .1) (d .1))
+]
 
 -- by induction on the number: take the places of its last bucket away
 pigeons : (n : ℕ) (xs : List Place) → All (Low n) xs → Distinct xs → length xs ≤ n
@@ -124,34 +124,34 @@ distinct-lost (x ∷ xs) d =
 kept-zero : (xs : List Place) → All (λ x. length (x .1) ≡ 0) (kept xs)
 kept-zero [] = tt
 kept-zero (x ∷ xs) = elim (cases-eq (length (x .1)) 0) [
-      | inl e ↦ subst (All (λ y. length (y .1) ≡ 0)) (sym (cond-true (eqb (length (x .1)) 0) (x ∷ kept xs) (kept xs) (eq-eqb (length (x .1)) 0 e))) (e, kept-zero xs)
-      | inr e ↦ subst (All (λ y. length (y .1) ≡ 0)) (sym (cond-false (eqb (length (x .1)) 0) (x ∷ kept xs) (kept xs) (ne-eqb (length (x .1)) 0 e))) (kept-zero xs)
-    ]
+  | inl e ↦ subst (All (λ y. length (y .1) ≡ 0)) (sym (cond-true (eqb (length (x .1)) 0) (x ∷ kept xs) (kept xs) (eq-eqb (length (x .1)) 0 e))) (e, kept-zero xs)
+  | inr e ↦ subst (All (λ y. length (y .1) ≡ 0)) (sym (cond-false (eqb (length (x .1)) 0) (x ∷ kept xs) (kept xs) (ne-eqb (length (x .1)) 0 e))) (kept-zero xs)
+]
 
 lost-some : (xs : List Place) → All (λ x. 1 ≤ length (x .1)) (lost xs)
 lost-some [] = tt
 lost-some (x ∷ xs) = elim (cases-eq (length (x .1)) 0) [
-      | inl e ↦ subst (All (λ y. 1 ≤ length (y .1))) (sym (cond-true (eqb (length (x .1)) 0) (lost xs) (x ∷ lost xs) (eq-eqb (length (x .1)) 0 e))) (lost-some xs)
-      | inr e ↦ subst (All (λ y. 1 ≤ length (y .1))) (sym (cond-false (eqb (length (x .1)) 0) (lost xs) (x ∷ lost xs) (ne-eqb (length (x .1)) 0 e))) (omega (arith, e), lost-some xs)
-    ]
+  | inl e ↦ subst (All (λ y. 1 ≤ length (y .1))) (sym (cond-true (eqb (length (x .1)) 0) (lost xs) (x ∷ lost xs) (eq-eqb (length (x .1)) 0 e))) (lost-some xs)
+  | inr e ↦ subst (All (λ y. 1 ≤ length (y .1))) (sym (cond-false (eqb (length (x .1)) 0) (lost xs) (x ∷ lost xs) (ne-eqb (length (x .1)) 0 e))) (omega (arith, e), lost-some xs)
+]
 
 pub kept-crowd : (ls : List Lvl) (g : Seg) (nb : ℕ) (D : Deliveries) (m : ℕ) (c : Crowd ls g nb D (λ k. 0 ≤ k) m) → Crowd ls g nb D (λ k. k ≡ 0) (length (kept (c .places)))
 kept-crowd ls g nb D m c = record {
-    places = kept (c .places);
-    there = all-both (Exists ls g nb D) (λ x. length (x .1) ≡ 0) (kept (c .places))
+  places = kept (c .places);
+  there = all-both (Exists ls g nb D) (λ x. length (x .1) ≡ 0) (kept (c .places))
       (all-kept (Exists ls g nb D) (c .places) (all-imp (λ x. Exists ls g nb D x × (0 ≤ length (x .1))) (Exists ls g nb D) (c .places) (λ x h. h .0) (c .there))) (kept-zero (c .places));
-    distinct = distinct-kept (c .places) (c .distinct);
-    many = omega arith;
-  }
+  distinct = distinct-kept (c .places) (c .distinct);
+  many = omega arith;
+}
 
 pub lost-crowd : (ls : List Lvl) (g : Seg) (nb : ℕ) (D : Deliveries) (m : ℕ) (c : Crowd ls g nb D (λ k. 0 ≤ k) m) → Crowd ls g nb D (λ k. 1 ≤ k) (length (lost (c .places)))
 lost-crowd ls g nb D m c = record {
-    places = lost (c .places);
-    there = all-both (Exists ls g nb D) (λ x. 1 ≤ length (x .1)) (lost (c .places))
+  places = lost (c .places);
+  there = all-both (Exists ls g nb D) (λ x. 1 ≤ length (x .1)) (lost (c .places))
       (all-lost (Exists ls g nb D) (c .places) (all-imp (λ x. Exists ls g nb D x × (0 ≤ length (x .1))) (Exists ls g nb D) (c .places) (λ x h. h .0) (c .there))) (lost-some (c .places));
-    distinct = distinct-lost (c .places) (c .distinct);
-    many = omega arith;
-  }
+  distinct = distinct-lost (c .places) (c .distinct);
+  many = omega arith;
+}
 
 -- ---- below the last level there is no step
 no-step : (g : Seg) (ds : List ℕ) (p : List ℤ) → 1 ≤ length p → There [] g ds p → ⊥
@@ -183,11 +183,12 @@ module _ (l : Lvl) (ls : List Lvl) (g : Seg) (nb rows : ℕ) (E D : Deliveries) 
 
   down-distinct : (xs : List Place) → All (λ x. Exists (l ∷ ls) g nb D x × (1 ≤ length (x .1))) xs → Distinct xs → Distinct (map down xs)
   down-distinct [] b d = tt
-  down-distinct (x ∷ xs) b d =
-      (all-map (λ y. (x ≡ y → ⊥) × (Exists (l ∷ ls) g nb D y × (1 ≤ length (y .1)))) (λ y. down x ≡ y → ⊥) down xs
+  down-distinct (x ∷ xs) b d = (
+    all-map (λ y. (x ≡ y → ⊥) × (Exists (l ∷ ls) g nb D y × (1 ≤ length (y .1)))) (λ y. down x ≡ y → ⊥) down xs
         (λ y h e. h .0 (down-apart (x .0) (x .1) (y .0) (y .1) (b .0 .1) (b .0 .0) (h .1 .1) (h .1 .0) e))
         (all-both (λ y. x ≡ y → ⊥) (λ y. Exists (l ∷ ls) g nb D y × (1 ≤ length (y .1))) xs (d .0) (b .1)),
-       down-distinct xs (b .1) (d .1))
+    down-distinct xs (b .1) (d .1),
+  )
 
   drop-length : (p : List ℤ) → 1 ≤ length p → suc (length (drop 1 p)) ≡ length p
   drop-length [] h = absurd (omega arith)
@@ -196,12 +197,12 @@ module _ (l : Lvl) (ls : List Lvl) (g : Seg) (nb rows : ℕ) (E D : Deliveries) 
   pub crowd-down : (P Q : ℕ → Type 0) (m : ℕ) → ((j : ℕ) → P j → 1 ≤ j) → ((j : ℕ) → P (suc j) → Q j) → Crowd (l ∷ ls) g nb D P m → Crowd ls g rows E Q m
   unfolding down
   crowd-down P Q m long f c = record {
-      places = map down (c .places);
-      there = all-map (λ x. Exists (l ∷ ls) g nb D x × P (length (x .1))) (λ x. Exists ls g rows E x × Q (length (x .1))) down (c .places)
+    places = map down (c .places);
+    there = all-map (λ x. Exists (l ∷ ls) g nb D x × P (length (x .1))) (λ x. Exists ls g rows E x × Q (length (x .1))) down (c .places)
         (λ x h. let some = long (length (x .1)) (h .1) in (down-exists (x .0) (x .1) some (h .0), f (length (drop 1 (x .1))) (subst P (sym (drop-length (x .1) some)) (h .1)))) (c .there);
-      distinct = down-distinct (c .places) (all-imp (λ x. Exists (l ∷ ls) g nb D x × P (length (x .1))) (λ x. Exists (l ∷ ls) g nb D x × (1 ≤ length (x .1))) (c .places) (λ x h. (h .0, long (length (x .1)) (h .1))) (c .there)) (c .distinct);
-      many = omega (arith, c .many, length-map (c .places) down);
-    }
+    distinct = down-distinct (c .places) (all-imp (λ x. Exists (l ∷ ls) g nb D x × P (length (x .1))) (λ x. Exists (l ∷ ls) g nb D x × (1 ≤ length (x .1))) (c .places) (λ x h. (h .0, long (length (x .1)) (h .1))) (c .there)) (c .distinct);
+    many = omega (arith, c .many, length-map (c .places) down);
+  }
 
   down-to : (k m : ℕ) → Crowd (l ∷ ls) g nb D (λ j. j ≡ suc k) m → Crowd ls g rows E (λ j. j ≡ k) m
   down-to k m c = crowd-down (λ j. j ≡ suc k) (λ j. j ≡ k) m (λ j p. omega (arith, p)) (λ j p. omega (arith, p)) c
@@ -214,13 +215,13 @@ module _ (l : Lvl) (ls : List Lvl) (g : Seg) (nb rows : ℕ) (E D : Deliveries) 
   -- the rows that exist are those of the table and those below it
   pub complete-up : (slots made : ℕ) → rows ≤ 512 → Complete ls slots g rows E made → Complete (l ∷ ls) slots g nb D (rows + made)
   complete-up slots made h below = record {
-      bounded = bounded-up slots h (below .bounded);
-      all = λ m c.
+    bounded = bounded-up slots h (below .bounded);
+    all = λ m c.
         let d = crowd-down (λ j. 1 ≤ j) (λ j. 0 ≤ j) m (λ j p. p) (λ j p. omega arith) c in
         let few = crowd-few ls g rows E (length (kept (d .places))) (kept-crowd ls g rows E m d) in
         let rest = below .all (length (lost (d .places))) (lost-crowd ls g rows E m d) in
         omega (arith, d .many, few, rest, parts-length (d .places));
-    }
+  }
 
 -- ---- fewer buckets and deliveries have fewer rows
 pub bounded-as : (ls : List Lvl) (slots : ℕ) (g : Seg) (nb mb : ℕ) (D E : Deliveries) → nb ≤ mb → More D E → Bounded ls slots g mb E → Bounded ls slots g nb D
@@ -228,13 +229,13 @@ bounded-as ls slots g nb mb D E h more b j m i c = let P : ℕ → Type 0 = λ k
 
 pub complete-as : (ls : List Lvl) (slots : ℕ) (g : Seg) (nb mb : ℕ) (D E : Deliveries) (made : ℕ) → nb ≤ mb → More D E → Complete ls slots g mb E made → Complete ls slots g nb D made
 complete-as ls slots g nb mb D E made h more b = record {
-    bounded = bounded-as ls slots g nb mb D E h more (b .bounded);
-    all = λ m c. let P : ℕ → Type 0 = λ k. 1 ≤ k in b .all m (crowd-as ls g nb mb D E P P m m h more (λ k p. p) (omega arith) c);
-  }
+  bounded = bounded-as ls slots g nb mb D E h more (b .bounded);
+  all = λ m c. let P : ℕ → Type 0 = λ k. 1 ≤ k in b .all m (crowd-as ls g nb mb D E P P m m h more (λ k p. p) (omega arith) c);
+}
 
 -- ---- the bottom has a tally for each bucket, and no rows of its own
 pub complete-bottom : (slots : ℕ) (g : Seg) (nb : ℕ) (D : Deliveries) → nb ≤ slots → Complete [] slots g nb D 0
 complete-bottom slots g nb D h = record {
-    bounded = λ j m i c. omega (arith, crowd-few [] g nb D m c);
-    all = λ m c. omega (arith, c .many, none-there g nb D (c .places) (c .there));
-  }
+  bounded = λ j m i c. omega (arith, crowd-few [] g nb D m c);
+  all = λ m c. omega (arith, c .many, none-there g nb D (c .places) (c .there));
+}

@@ -13,16 +13,18 @@ pub returns-then-at-slots : need.returns-then-at-slots
 returns-then-at-slots g c =
     let s = c .args .self .now in
     refused-past (s .column) (s .«field_type») (length (c .args .slots .now)) (c .args .bucket + 1) (s .number) (g .S·Segment .means (c .args .seg .now)) _ _ (λ D. added D (c .args .bucket) (c .args .docs .now)) (c .args .-limits .now) (c .too-many-rows .result)
-      (omega (arith, c .if-at-slots .taken)) (λ b i. omega (arith, i)) (λ n b D h. h .0) (c .too-many-rows .ensures)
+    (omega (arith, c .if-at-slots .taken)) (λ b i. omega (arith, i)) (λ n b D h. h .0) (c .too-many-rows .ensures)
 
 pub returns : need.returns
 returns g c =
     let t = g .T·Tally in
     let s = c .args .self .now in
     record {
-      keeps = λ n buckets i D h.
-        (h .0, slots-fed (t .worth) record { nothing = t .nothing; fed = t .fed } (bottom-plan (s .column) (s .«field_type»)) (g .S·Segment .means (c .args .seg .now)) (c .args .slots .now) (c .args .bucket) (c .args .docs .now)
-          (c .index-slots-at .result) (c .feed-docs .last .slot) (c .if-at-slots .left) (c .feed-docs .ensures) D (h .1));
+      keeps = λ n buckets i D h. (
+        h .0,
+        slots-fed (t .worth) record { nothing = t .nothing; fed = t .fed } (bottom-plan (s .column) (s .«field_type»)) (g .S·Segment .means (c .args .seg .now)) (c .args .slots .now) (c .args .bucket) (c .args .docs .now)
+            (c .index-slots-at .result) (c .feed-docs .last .slot) (c .if-at-slots .left) (c .feed-docs .ensures) D (h .1),
+      );
       same-plan = refl;
       charged = charged-none (c .args .-limits .now) 0 0 refl;
     }
