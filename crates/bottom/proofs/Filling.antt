@@ -3,11 +3,11 @@ use mathlib.Core.Path.{_≡_, refl, sym, ap, _∙_, subst}
 use mathlib.Core.List.{List, [], _∷_, _++_, append-assoc}
 use mathlib.Core.Logic.{_≢_, inl, inr}
 use Prim.Native.Nat.{ℕ, _+_, _<_, _≤_}
-use lib.ListN.{length, take, getD, set}
+use lib.ListN.{length, take, getD}
 use native.Mathlib.Omega.{arith}
 use Rattle.std.specs.Finite.{nth}
 use Rattle.std.specs.declared.option.Option.the-variants.{Some, None}
-use Rattle.std.proofs.shelf.Lists.{append-nil, take-more, length-set, getD-set-same, getD-set-other}
+use Rattle.std.proofs.shelf.Lists.{append-nil, take-more}
 use Rattle.std.proofs.shelf.Tests.{cases-eq}
 use Rattle.records.specs.Refusals.{refusal-number}
 use Rattle.records.specs.declared.column_type.ColumnType.{ColumnType}
@@ -24,7 +24,7 @@ use Rattle.stack.specs.Calls.{for-rows, Stopped, Overran}
 use Rattle.stack.specs.Writing.{Feeding}
 use Rattle.stack.proofs.Delivering.{added-same, added-other}
 use Rattle.stack.proofs.Overrunning.{bottom-over}
-use Rattle.bottom.specs.Bottoms.{bottom-plan, Slots}
+use Rattle.bottom.specs.Bottoms.{bottom-plan, Slot-fed, Slots}
 
 -- the values of one list of documents, then of the other: by recursion on the first
 pub values-more : (g : Seg) (column : ℕ) (ds es : List ℕ) → values-of g column (ds ++ es) ≡ values-of g column ds ++ values-of g column es
@@ -52,29 +52,23 @@ doc-fed fed t g column ds i was w is h a b =
     ∙ ap (λ es. fed-all fed t (vals es) was) (sym (take-more ds i 0 h))
 
 -- The slot of a bucket is fed its documents; every other slot is as it was.
-pub slots-fed : {T W : Type 0} (worth : T → W) (f : Feeding W) (plan : Plan) (g : Seg) (slots : List T) (b : ℕ) (ds : List ℕ) (x y : T)
-    → b < length slots → worth y ≡ fed-all (f .fed) (plan .field-type) (values-of g (plan .column) ds) (worth (getD slots b x))
-    → (D : Deliveries) → Slots worth f plan g slots D → Slots worth f plan g (set slots b y) (added D b ds)
-slots-fed worth f plan g slots b ds x y h e D s =
+pub slots-fed : {T W : Type 0} (worth : T → W) (f : Feeding W) (plan : Plan) (g : Seg) (was is : List T) (b : ℕ) (ds : List ℕ)
+    → Slot-fed worth (f .fed) (plan .field-type) (values-of g (plan .column) ds) was is b → (D : Deliveries) → Slots worth f plan g was D → Slots worth f plan g is (added D b ds)
+slots-fed worth f plan g was is b ds x D s =
     let t = plan .field-type in
     let vals = values-of g (plan .column) in
     let feeds : List ℕ → _ = λ docs. fed-all (f .fed) t (vals docs) (f .nothing) in
     record {
-      inside = λ k d l.
-          let within : k < length slots = subst (λ (n : ℕ). k < n) (length-set slots b y) l in
-          elim (cases-eq k b) [
-            | inl q ↦ subst (λ (j : ℕ). worth (getD (set slots b y) j d) ≡ feeds (added D b ds j)) (sym q)
-                (ap worth (getD-set-same slots b y d h)
-                ∙ e
-                ∙ ap (fed-all (f .fed) t (vals ds)) (s .inside b x h)
-                ∙ sym (fed-more (f .fed) t (vals (D b)) (vals ds) (f .nothing))
-                ∙ ap (λ vs. fed-all (f .fed) t vs (f .nothing)) (sym (values-more g (plan .column) (D b) ds))
-                ∙ ap feeds (sym (added-same D b ds)))
-            | inr q ↦ ap worth (getD-set-other slots b k y d q) ∙ s .inside k d within ∙ ap feeds (sym (added-other D b k ds q))
-          ];
-      outside = λ k l.
-          let past : length slots ≤ k = subst (λ (n : ℕ). n ≤ k) (length-set slots b y) l in
-          added-other D b k ds (λ q. omega (arith, q, past, h)) ∙ s .outside k past;
+      inside = λ k d l. elim (cases-eq k b) [
+        | inl q ↦ subst (λ (j : ℕ). worth (getD is j d) ≡ feeds (added D b ds j)) (sym q)
+            (x .here d
+            ∙ ap (fed-all (f .fed) t (vals ds)) (s .inside b d (x .within))
+            ∙ sym (fed-more (f .fed) t (vals (D b)) (vals ds) (f .nothing))
+            ∙ ap (λ vs. fed-all (f .fed) t vs (f .nothing)) (sym (values-more g (plan .column) (D b) ds))
+            ∙ ap feeds (sym (added-same D b ds)))
+        | inr q ↦ ap worth (x .others k d q) ∙ s .inside k d (omega (arith, l, x .same-length)) ∙ ap feeds (sym (added-other D b k ds q))
+      ];
+      outside = λ k l. added-other D b k ds (λ q. omega (arith, q, l, x .same-length, x .within)) ∙ s .outside k (omega (arith, l, x .same-length));
     }
 
 -- their numbers differ

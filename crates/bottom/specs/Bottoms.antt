@@ -29,6 +29,13 @@ abbrev pub unknown-column : Option ColumnType → ℕ → Option Fault
 unknown-column None n = Some (fault UnknownColumn n)
 unknown-column (Some t) n = None
 
+-- one slot is fed values, and all else is as it was
+pub record Slot-fed {T W : Type 0} (worth : T → W) (fed : ColumnType → ℕ → W → W) (t : ColumnType) (vals : List ℕ) (was is : List T) (at : ℕ) : Type 0 where
+  pub within : at < length was
+  pub same-length : length is ≡ length was
+  pub here : (d : T) → worth (getD is at d) ≡ fed-all fed t vals (worth (getD was at d))
+  pub others : (k : ℕ) (d : T) → (k ≡ at → ⊥) → getD is k d ≡ getD was k d
+
 -- each bucket's slot is worth what its documents' values make of the empty tally, and no bucket lies past the slots
 pub record Slots {T W : Type 0} (worth : T → W) (f : Feeding W) (plan : Plan) (g : Seg) (slots : List T) (D : Deliveries) : Type 0 where
   pub inside : (b : ℕ) (d : T) → b < length slots → worth (getD slots b d) ≡ fed-all (f .fed) (plan .field-type) (values-of g (plan .column) (D b)) (f .nothing)

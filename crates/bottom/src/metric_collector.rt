@@ -1,7 +1,8 @@
 //! The bottom of a stack: the tallies of the last level's rows.
 ghost use mathlib.Core.Path.{_≡_};
-ghost use Prim.Native.Nat.{_≤_};
+ghost use Prim.Native.Nat.{_<_, _≤_};
 ghost use lib.ListN.{length};
+ghost use Rattle.std.specs.Results.{Cases};
 ghost use Rattle.records.specs.declared.column_type.ColumnType.the-variants.{U64};
 ghost use Rattle.records.specs.declared.fault.Refusal.the-variants.{TooManyRows};
 ghost use Rattle.metrics.specs.Tallies.{fed-all};
@@ -9,7 +10,7 @@ ghost use Rattle.segments.specs.Segments.{values};
 ghost use Rattle.stack.specs.Levels.{values-of};
 ghost use Rattle.stack.specs.Overruns.{numbered};
 ghost use Rattle.stack.specs.Writing.{Feeding};
-ghost use Rattle.bottom.specs.Bottoms.{bottom-plan, type-or-u64, unknown-column, Slots};
+ghost use Rattle.bottom.specs.Bottoms.{bottom-plan, type-or-u64, unknown-column, Slot-fed, Slots};
 use buckets::range::RangeAggregationRange;
 use limits::agg_limits::AggregationLimits;
 use metrics::tally::Tally;
@@ -54,15 +55,18 @@ impl<T> SegmentMetricCollector<T> {
         }
     }
 
-    /// The refusal of a bucket past the slots.
-    fn too_many_rows(&self) -> Fault
-        ensures { λ r. ⌜ r ≡ record { refusal = TooManyRows; level = now (self .entry) .number; place = 0 } ⌝ }
+    /// Refuses more buckets than there are slots.
+    fn check_slots(&self, slots: &[T], buckets: usize) -> Result<(), Fault>
+        ensures { λ r. ⌜ Cases r (λ _. buckets ≤ length (now (slots .entry))) (λ f. (f ≡ record { refusal = TooManyRows; level = now (self .entry) .number; place = 0 }) × (length (now (slots .entry)) < buckets)) ⌝ }
     {
-        Fault {
-            refusal: Refusal::TooManyRows,
-            level: self.number,
-            place: 0,
+        if buckets > slots.len() {
+            return Err(Fault {
+                refusal: Refusal::TooManyRows,
+                level: self.number,
+                place: 0,
+            });
         }
+        Ok(())
     }
 }
 
@@ -97,6 +101,21 @@ fn feed_docs<T: Tally, S: Segment>(
     for doc in docs {
         feed_doc(slot, &seg, column, field_type, *doc);
     }
+}
+
+/// Feeds the tally in a slot the values of each document, first to last.
+fn feed_slot<T: Tally, S: Segment>(
+    slots: &mut [T],
+    at: usize,
+    seg: &S,
+    column: u32,
+    field_type: ColumnType,
+    docs: &[u32],
+)
+    requires { ⌜ at < length (now slots) ⌝ }
+    ensures { λ _. ⌜ Slot-fed (T·Tally .worth) (T·Tally .fed) «field_type» (values-of (S·Segment .means (now (seg .entry))) column (now (docs .entry))) (now (slots .entry)) (now (slots .exit)) at ⌝ }
+{
+    feed_docs(&mut slots[at], seg, column, field_type, docs);
 }
 
 pub impl<T: Tally> SegmentAggregationCollector for SegmentMetricCollector<T> as MetricIsCollector {
@@ -161,11 +180,15 @@ pub impl<T: Tally> SegmentAggregationCollector for SegmentMetricCollector<T> as 
         bucket: u32,
         docs: &[u32],
     ) -> Result<(), Fault> {
-        let at = bucket as usize;
-        if at >= slots.len() {
-            return Err(self.too_many_rows());
-        }
-        feed_docs(&mut slots[at], seg, self.column, self.field_type, docs);
+        self.check_slots(slots, bucket as usize + 1)?;
+        feed_slot(
+            slots,
+            bucket as usize,
+            seg,
+            self.column,
+            self.field_type,
+            docs,
+        );
         Ok(())
     }
 
@@ -175,6 +198,7 @@ pub impl<T: Tally> SegmentAggregationCollector for SegmentMetricCollector<T> as 
         _limits: &mut AggregationLimits,
         _slots: &mut [T],
     ) -> Result<(), Fault> {
+        // Nothing waits at the bottom.
         Ok(())
     }
 
@@ -184,9 +208,7 @@ pub impl<T: Tally> SegmentAggregationCollector for SegmentMetricCollector<T> as 
         slots: &[T],
         buckets: u32,
     ) -> Result<(), Fault> {
-        if buckets as usize > slots.len() {
-            return Err(self.too_many_rows());
-        }
+        self.check_slots(slots, buckets as usize)?;
         Ok(())
     }
 
@@ -195,9 +217,9 @@ pub impl<T: Tally> SegmentAggregationCollector for SegmentMetricCollector<T> as 
     }
 
     fn tally_of(&self, slots: &[T], bucket: u32) -> T {
-        let at = bucket as usize;
-        if at < slots.len() {
-            slots[at]
+        let row = bucket as usize;
+        if row < slots.len() {
+            slots[row]
         } else {
             T::empty()
         }
