@@ -1,3 +1,4 @@
+pub mod Bounds
 pub mod Chaining
 pub mod Delivering
 pub mod Overrunning

@@ -1,0 +1,2 @@
+//! The bottom of a stack of collectors.
+pub mod metric_collector;
