@@ -207,7 +207,7 @@ row-is t sound b s h =
           absurd (let z : ⊥ = omega arith in z)
     ])
 
-has-step : (t : Table) (g : Seg) (nb buckets : ℕ) (carried : Deliveries → Type 0) (D : Deliveries) (x : Filed t nb carried (sorted (t .level) g D)) → Standing t buckets → (b : ℕ) (s : ℤ) → b < buckets → Step (t .level) g (D b) s → Has t b s
+pub has-step : (t : Table) (g : Seg) (nb buckets : ℕ) (carried : Deliveries → Type 0) (D : Deliveries) (x : Filed t nb carried (sorted (t .level) g D)) → Standing t buckets → (b : ℕ) (s : ℤ) → b < buckets → Step (t .level) g (D b) s → Has t b s
 has-step t g nb buckets carried D x standing b s h st = elim (step-cases (t .level) g (D b) s st) [
   | inl a ↦ standing b s h a
   | inr some ↦ x .found b s some

@@ -2,7 +2,7 @@
 ghost use mathlib.Core.Path.{_≡_};
 ghost use mathlib.Core.List.{List, [], _∷_, _++_};
 ghost use Prim.Native.Nat.{ℕ, suc, _+_, _<_, _≤_};
-ghost use lib.ListN.{length};
+ghost use lib.ListN.{length, set};
 ghost use Rattle.std.specs.Finite.{nth};
 ghost use Rattle.std.specs.Options.{orOther, Cases as BySome};
 ghost use Rattle.std.specs.Results.{Cases};
@@ -127,13 +127,24 @@ fn spread<K: RowTable, C: SubAggCache, S: Segment>(
 }
 
 /// The path of a row's step below a path, or at the top; none where the path has no room.
-fn path_below(above: Option<Path>, step: i64) -> Option<Path>
-    ensures { λ r. ⌜ BySome r (3 ≤ length (above-steps above)) (λ p. steps-of p ≡ above-steps above ++ (step ∷ [])) ⌝ }
+fn path_below(above: &Option<Path>, step: i64) -> Option<Path>
+    ensures { λ r. ⌜ BySome r (3 ≤ length (above-steps (now (above .entry)))) (λ p. steps-of p ≡ above-steps (now (above .entry)) ++ (step ∷ [])) ⌝ }
 {
     match above {
         None => Some(Path::first(step)),
         Some(path) => path.extended(step),
     }
+}
+
+/// Writes a row where there is room, and says where the next one goes.
+fn put_row<T: Tally>(out: &mut [Row<T>], at: usize, path: Path, count: u64, tally: T) -> usize
+    ensures { λ r. ⌜ (at < length (now (out .entry)) → (now (out .exit) ≡ set (now (out .entry)) at record { path = path; count = count; tally = tally }) × (r ≡ at + 1)) ⌝ }
+{
+    if at >= out.len() {
+        return at;
+    }
+    out[at] = Row { path, count, tally };
+    at + 1
 }
 
 /// Writes a row, and the rows below it.
@@ -148,21 +159,17 @@ fn write_row<K: RowTable, C: SubAggCache>(
 ) -> usize
     ensures { λ r. ⌜ ((g : Seg) (n : ℕ) (E : Deliveries) → row < K·RowTable .table (now (inner .entry)) .rows → C·SubAggCache .rests (now (below .entry)) → C·SubAggCache .prepared (now (below .entry)) (length (now (slots .entry))) (K·RowTable .table (now (inner .entry)) .rows) → C·SubAggCache .stored (now (below .entry)) (now (slots .entry)) g n (K·RowTable .table (now (inner .entry)) .rows) E → length (above-steps above) + suc (length (C·SubAggCache .plan (now (below .entry)) .levels)) ≤ 3 → (es : List (Entry (Fruit·Tally .Worth))) × (Written record { nothing = Fruit·Tally .nothing; fed = Fruit·Tally .fed } (C·SubAggCache .plan (now (below .entry)) .column) (C·SubAggCache .plan (now (below .entry)) .field-type) g (C·SubAggCache .plan (now (below .entry)) .levels) (above-steps above ++ (K·RowTable .table (now (inner .entry)) .step row ∷ [])) (E row) es × (at + suc (length es) ≤ length (now (out .entry)) → Put (Fruit·Tally .worth) (now (out .entry)) (now (out .exit)) at r (record { path = above-steps above ++ (K·RowTable .table (now (inner .entry)) .step row ∷ []); count = K·RowTable .table (now (inner .entry)) .count row; worth = row-worth record { nothing = Fruit·Tally .nothing; fed = Fruit·Tally .fed } (C·SubAggCache .plan (now (below .entry)) .levels) (C·SubAggCache .plan (now (below .entry)) .column) (C·SubAggCache .plan (now (below .entry)) .field-type) g (E row) } ∷ es)))) ⌝ }
 {
-    let Some(path) = path_below(above, inner.step_of(row)) else {
+    let Some(path) = path_below(&above, inner.step_of(row)) else {
         return at;
     };
     if row >= 512 {
         return at;
     }
     let bucket = row as u32;
-    if at < out.len() {
-        out[at] = Row {
-            path,
-            count: inner.count_of(row),
-            tally: below.tally_of(slots, bucket),
-        };
-    }
-    below.write_rows(slots, Some(path), bucket, out, at.saturating_add(1))
+    let count = inner.count_of(row);
+    let tally = below.tally_of(slots, bucket);
+    let next = put_row(out, at, path, count, tally);
+    below.write_rows(slots, Some(path), bucket, out, next)
 }
 
 pub impl<K: RowTable, C: SubAggCache> SegmentAggregationCollector for SegmentBucketCollector<K, C> as BucketCollectorIsLevel {
