@@ -185,3 +185,33 @@ pub fn stats_stand() -> u8
 {
     0
 }
+
+#[cfg(test)]
+mod tests {
+    use super::*;
+    use crate::exact::feed_apart;
+    use crate::extremes::Extremes;
+    use crate::extremes::ExtremesIsExact;
+    use std::test::*;
+
+    #[test]
+    fn compensates() -> Result<(), Fail> {
+        let mut stats = IntermediateStats::empty();
+        stats.feed(ColumnType::U64, 1 << 53);
+        stats.feed(ColumnType::Bool, 1);
+        let mut other = IntermediateStats::empty();
+        other.feed(ColumnType::I64, (1 << 63) + 1);
+        stats.merge_fruits(&other);
+        let end = stats.finalize();
+        check(end.sum == 9_007_199_254_740_994.0)?;
+        check_eq(end.min, Some(1.0))?;
+        check_eq(stats.count(), 3)
+    }
+
+    #[test]
+    fn fed_apart() -> Result<(), Fail> {
+        let tally: Extremes = feed_apart(ColumnType::U64, &[7, 3], &[9]);
+        check_eq(tally.least(), Some(3))?;
+        check_eq(tally.greatest(), Some(9))
+    }
+}
