@@ -1,5 +1,7 @@
+pub mod Carrying
 pub mod Counting
 pub mod Feeding
+pub mod Nearing
 pub mod Storing
 pub mod Ties
 pub mod Widening

@@ -1,3 +1,4 @@
+pub mod Carry
 pub mod Cases
 pub mod Ends
 pub mod Numbers

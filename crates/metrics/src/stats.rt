@@ -1,9 +1,10 @@
 //! Count, compensated sum, least and greatest of the values as numbers.
 ghost use mathlib.Core.Path.{_≡_};
-ghost use lib.Ieee.{binary64, ofBits};
+ghost use lib.Ieee.{binary64, ofBits, sub};
 ghost use Rattle.std.specs.Orderings.{Decides};
 ghost use Rattle.metrics.specs.Sums.{Sums, no-sums, advanced, collected, merged, stats-worth, stored, mean, finalized};
 ghost use Rattle.numbers.specs.Columns.{number-of};
+ghost use Rattle.metrics.specs.Carry.{Carried, Carries};
 ghost use Rattle.metrics.specs.Cases.{Worked};
 use crate::joinable::Joinable;
 use crate::tally::Tally;
@@ -95,6 +96,7 @@ impl IntermediateStats {
     pub fn collect(&mut self, value: f64)
         ensures kept { λ _. ⌜ now (self .exit) ≡ stored (collected (stats-worth (now (self .entry))) value) ⌝ }
         ensures read { λ _. ⌜ stats-worth (now (self .exit)) ≡ collected (stats-worth (now (self .entry))) value ⌝ }
+        ensures carried { λ _. ⌜ Carried (stats-worth (now (self .entry))) (sub binary64 value (stats-worth (now (self .entry)) .delta)) (stats-worth (now (self .exit))) ⌝ }
     {
         let y = value - f64_from_bits_with_nan(self.delta);
         self.advance(1, y, value, value);
@@ -104,6 +106,7 @@ impl IntermediateStats {
     fn advance(&mut self, count: u64, y: f64, min: f64, max: f64)
         ensures kept { λ _. ⌜ now (self .exit) ≡ stored (advanced (stats-worth (now (self .entry))) count y min max) ⌝ }
         ensures read { λ _. ⌜ stats-worth (now (self .exit)) ≡ advanced (stats-worth (now (self .entry))) count y min max ⌝ }
+        ensures carried { λ _. ⌜ Carried (stats-worth (now (self .entry))) y (stats-worth (now (self .exit))) ⌝ }
     {
         let sum = self.sum();
         let t = sum + y;
@@ -182,6 +185,13 @@ pub impl Joinable for IntermediateStats as IntermediateStatsIsJoinable {
 /// The worked cases: 2^53, 1 and 1 sum to 2^53 + 2, and after +∞ and 1 the sum is +∞ and the least 1.
 pub fn stats_stand() -> u8
     ensures { λ _. ⌜ Worked ⌝ }
+{
+    0
+}
+
+/// What an addition rounds off is carried in the compensation, in a merging too.
+pub fn compensation_stands() -> u8
+    ensures { λ _. ⌜ Carries ⌝ }
 {
     0
 }
