@@ -1,6 +1,6 @@
 pub mod Carry
-pub mod Cases
 pub mod Ends
 pub mod Numbers
+pub mod StatsLaws
 pub mod Sums
 pub mod Tallies

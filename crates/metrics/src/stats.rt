@@ -1,11 +1,11 @@
 //! Count, compensated sum, least and greatest of the values as numbers.
 ghost use mathlib.Core.Path.{_≡_};
-ghost use lib.Ieee.{binary64, ofBits, sub};
+ghost use lib.Ieee.{binary64, ofBits, add, sub};
 ghost use Rattle.std.specs.Orderings.{Decides};
-ghost use Rattle.metrics.specs.Sums.{Sums, no-sums, advanced, collected, merged, stats-worth, stored, mean, finalized};
+ghost use Rattle.metrics.specs.Sums.{Sums, no-sums, excess, advanced, collected, merged, stats-worth, stored, mean, finalized};
 ghost use Rattle.numbers.specs.Columns.{number-of};
 ghost use Rattle.metrics.specs.Carry.{Carried, Carries};
-ghost use Rattle.metrics.specs.Cases.{Worked};
+ghost use Rattle.metrics.specs.StatsLaws.{Worked, Stats-laws};
 use crate::joinable::Joinable;
 use crate::tally::Tally;
 use numbers::fast_field::f64_from_fastfield_u64;
@@ -102,21 +102,27 @@ impl IntermediateStats {
         self.advance(1, y, value, value);
     }
 
-    /// Goes on by `count` values whose sum, less the compensation, is `y`: one step of Kahan's algorithm.
+    /// Goes on by `count` values with `y` to be added, and their least and greatest value.
     fn advance(&mut self, count: u64, y: f64, min: f64, max: f64)
         ensures kept { λ _. ⌜ now (self .exit) ≡ stored (advanced (stats-worth (now (self .entry))) count y min max) ⌝ }
         ensures read { λ _. ⌜ stats-worth (now (self .exit)) ≡ advanced (stats-worth (now (self .entry))) count y min max ⌝ }
         ensures carried { λ _. ⌜ Carried (stats-worth (now (self .entry))) y (stats-worth (now (self .exit))) ⌝ }
     {
-        let sum = self.sum();
-        let t = sum + y;
-        let delta = if t.is_finite() { (t - sum) - y } else { 0.0 };
+        let (sum, delta) = kahan(self.sum(), y);
         self.count = self.count.saturating_add(count);
-        self.sum = f64_to_bits_with_nan(t);
+        self.sum = f64_to_bits_with_nan(sum);
         self.delta = f64_to_bits_with_nan(delta);
         self.min = f64_to_bits_with_nan(f64_from_bits_with_nan(self.min).min(min));
         self.max = f64_to_bits_with_nan(f64_from_bits_with_nan(self.max).max(max));
     }
+}
+
+/// One step of Kahan's algorithm: the sum with `y` added, and its compensation, which is 0 where the sum is not finite.
+fn kahan(sum: f64, y: f64) -> (f64, f64)
+    ensures { λ r. ⌜ r ≡ (add binary64 sum y, excess sum y) ⌝ }
+{
+    let t = sum + y;
+    if t.is_finite() { (t, (t - sum) - y) } else { (t, 0.0) }
 }
 
 /// Whether two patterns stand for the same float; any NaN is one.
@@ -185,6 +191,14 @@ pub impl Joinable for IntermediateStats as IntermediateStatsIsJoinable {
 /// The worked cases: 2^53, 1 and 1 sum to 2^53 + 2, and after +∞ and 1 the sum is +∞ and the least 1.
 pub fn stats_stand() -> u8
     ensures { λ _. ⌜ Worked ⌝ }
+{
+    0
+}
+
+/// A NaN changes neither the least nor the greatest, of −0.0 and +0.0 the earlier stays, and a sum that is not finite has
+/// compensation 0.
+pub fn stats_laws_stand() -> u8
+    ensures { λ _. ⌜ Stats-laws ⌝ }
 {
     0
 }
