@@ -60,11 +60,11 @@ size-down l t m k le h =
     let e : 2 ^ l ≡ 2 ^ (l - k) * 2 ^ k = ap (λ (z : ℕ). 2 ^ z) (omega arith) ∙ pow-add 2 (l - k) k in
     let g : m * 1 * 2 ^ (l - k) < 2 ^ t * 2 ^ k * 2 ^ (l - k) = mul-lt-mul-of-pos-right h (pow-pos (l - k)) in
     let f : 2 ^ (l + t) ≡ 2 ^ t * 2 ^ k * 2 ^ (l - k) =
-        pow-add 2 l t ∙ mul-comm (2 ^ l) (2 ^ t) ∙ ap (λ (z : ℕ). 2 ^ t * z) (e ∙ mul-comm (2 ^ (l - k)) (2 ^ k)) ∙ sym (mul-assoc (2 ^ t) (2 ^ k) (2 ^ (l - k)))
+    pow-add 2 l t ∙ mul-comm (2 ^ l) (2 ^ t) ∙ ap (λ (z : ℕ). 2 ^ t * z) (e ∙ mul-comm (2 ^ (l - k)) (2 ^ k)) ∙ sym (mul-assoc (2 ^ t) (2 ^ k) (2 ^ (l - k)))
     in
-    let c : m * 1 * 2 ^ (l - k) ≡ m * 2 ^ (l - k) = ap (λ (z : ℕ). z * 2 ^ (l - k)) (mul-one m) in
-    ( ap (λ (z : ℕ). z * 2 ^ l) (mul-one m) ∙ ap (λ (z : ℕ). m * z) e ∙ sym (mul-assoc m (2 ^ (l - k)) (2 ^ k))
-    , omega arith
+    let c : m * 1 * 2 ^ (l - k) ≡ m * 2 ^ (l - k) = ap (λ (z : ℕ). z * 2 ^ (l - k)) (mul-one m) in (
+      ap (λ (z : ℕ). z * 2 ^ l) (mul-one m) ∙ ap (λ (z : ℕ). m * z) e ∙ sym (mul-assoc m (2 ^ (l - k)) (2 ^ k)),
+      omega arith,
     )
 
 below-pow : (a b : ℕ) → 2 ^ a ≤ 2 ^ b → a ≤ b
@@ -125,8 +125,8 @@ sum-same s t a b c A B C p P e f =
     let one : round binary64 s (a + b) c ≡ round binary64 s (A + B) C = round-same binary64 s (a + b) c (A + B) C p P (add-mul a b C ∙ ap₂ (λ x y. x + y) e f ∙ sym (add-mul A B c)) in
     let two : round binary64 t (b - a) c ≡ round binary64 t (B - A) C = round-same binary64 t (b - a) c (B - A) C p P (cross-minus b a c B A C f e) in
     let six : round binary64 (s && ltb b a) (a - b) c ≡ round binary64 (s && ltb B A) (A - B) C =
-        ap (λ (z : Bool). round binary64 (s && z) (a - b) c) (ltb-same b a c B A C p P f e)
-        ∙ round-same binary64 (s && ltb B A) (a - b) c (A - B) C p P (cross-minus a b c A B C e f)
+    ap (λ (z : Bool). round binary64 (s && z) (a - b) c) (ltb-same b a c B A C p P f e)
+    ∙ round-same binary64 (s && ltb B A) (a - b) c (A - B) C p P (cross-minus a b c A B C e f)
     in
     ap (λ (z : Float). cond (Bool·beq s t) z (cond (ltb a b) (round binary64 t (b - a) c) (round binary64 (s && ltb b a) (a - b) c))) one
     ∙ ap (λ (z : Float). cond (Bool·beq s t) (round binary64 s (A + B) C) (cond (ltb a b) z (round binary64 (s && ltb b a) (a - b) c))) two
@@ -320,15 +320,15 @@ module _ (x y : Float) (a b : Bool) (u : Whole x a) (v : Whole y b) (small : v .
       let same : signed (z .sign) t ≡ signed a t = agree (z .sign) a n (alike-sign a b (z .sign) (u .n) (v .n) n small (z .adds)) in
       let g = gap a t (u .n) in
       let first =
-          exact-sum (add binary64 x y) (neg x) (z .sign) (not a) t (u .n) has (neg-units x a (u .n) (u .has)) (g .0) (dist t (u .n))
-          (g .1 ∙ ap₂ (λ p q. p +ℤ q) (sym same) (sym (signed-not a (u .n))))
-          (nr .0) (between t (u .n) top (r .1) (u .fine))
+      exact-sum (add binary64 x y) (neg x) (z .sign) (not a) t (u .n) has (neg-units x a (u .n) (u .has)) (g .0) (dist t (u .n))
+      (g .1 ∙ ap₂ (λ p q. p +ℤ q) (sym same) (sym (signed-not a (u .n))))
+      (nr .0) (between t (u .n) top (r .1) (u .fine))
       in
       let k = gap (z .sign) t n in
       let second =
-          exact-sum (add binary64 (add binary64 x y) (neg x)) (neg y) (first .sign) (not b) (dist t (u .n)) (v .n) (first .has) (neg-units y b (v .n) (v .has)) (k .0) (dist t n)
-          (turning (signed (z .sign) t) (signed (z .sign) n) (signed a (u .n)) (signed b (v .n)) (signed (first .sign) (dist t (u .n))) (signed (k .0) (dist t n)) (z .adds) (first .adds ∙ ap (λ q. signed (z .sign) t +ℤ q) (signed-not a (u .n))) (k .1) ∙ ap (λ q. signed (first .sign) (dist t (u .n)) +ℤ q) (sym (signed-not b (v .n))))
-          (nr .1) (lt-of-le-of-lt (nr .2) (v .fine))
+      exact-sum (add binary64 (add binary64 x y) (neg x)) (neg y) (first .sign) (not b) (dist t (u .n)) (v .n) (first .has) (neg-units y b (v .n) (v .has)) (k .0) (dist t n)
+      (turning (signed (z .sign) t) (signed (z .sign) n) (signed a (u .n)) (signed b (v .n)) (signed (first .sign) (dist t (u .n))) (signed (k .0) (dist t n)) (z .adds) (first .adds ∙ ap (λ q. signed (z .sign) t +ℤ q) (signed-not a (u .n))) (k .1) ∙ ap (λ q. signed (first .sign) (dist t (u .n)) +ℤ q) (sym (signed-not b (v .n))))
+      (nr .1) (lt-of-le-of-lt (nr .2) (v .fine))
       in
       units-are (add binary64 x y) (z .sign) t has
       ∙ closing (signed (z .sign) t) (signed a (u .n)) (signed b (v .n)) (signed (second .sign) (dist t n)) (signed (first .sign) (dist t (u .n))) (first .adds ∙ ap (λ q. signed (z .sign) t +ℤ q) (signed-not a (u .n))) (second .adds ∙ ap (λ q. signed (first .sign) (dist t (u .n)) +ℤ q) (signed-not b (v .n)))

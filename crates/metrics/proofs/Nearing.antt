@@ -109,7 +109,7 @@ reaches m c i e =
     let n = m * 2 ^ c in
     let k : 2 ^ (52 + (c + suc i)) ≤ n = size-reaches n (52 + (c + suc i)) (omega arith) in
     let p : 2 ^ (52 + (c + suc i)) ≡ 2 ^ 52 * 2 ^ suc i * 2 ^ c =
-        pow-add 2 52 (c + suc i) ∙ ap (λ (z : ℕ). 2 ^ 52 * z) (pow-add 2 c (suc i) ∙ mul-comm (2 ^ c) (2 ^ suc i)) ∙ sym (mul-assoc (2 ^ 52) (2 ^ suc i) (2 ^ c))
+    pow-add 2 52 (c + suc i) ∙ ap (λ (z : ℕ). 2 ^ 52 * z) (pow-add 2 c (suc i) ∙ mul-comm (2 ^ c) (2 ^ suc i)) ∙ sym (mul-assoc (2 ^ 52) (2 ^ suc i) (2 ^ c))
     in
     le-of-mul-le-mul-right (le-trans (le-of-eq (sym p)) k) (pow-pos c)
 
@@ -176,20 +176,20 @@ near-scaled c q d y n few small below apart = go (leb-tells (suc c) (cut (n * 2 
         let big = reaches n c i e in
         let t = closest n (2 ^ suc i) * 2 ^ suc i in
         let a : dist t n ≤ y = by-y q d y n i few apart big in
-        subst (Nearing (n * 2 ^ c) (q * 2 ^ d * 2 ^ c) (y * 2 ^ c)) (sym (scaled n c i e))
-        ( subst Few (sym (dist-scale t (q * 2 ^ d) (2 ^ c))) (rise q d y n i c few small below apart big)
-        , record { q = dist t n; j = c; small = lt-of-le-of-lt a small; is = dist-scale t n (2 ^ c) }
-        , le-trans (le-of-eq (dist-scale t n (2 ^ c))) (mul-le-mul-right (2 ^ c) a)
+        subst (Nearing (n * 2 ^ c) (q * 2 ^ d * 2 ^ c) (y * 2 ^ c)) (sym (scaled n c i e)) (
+          subst Few (sym (dist-scale t (q * 2 ^ d) (2 ^ c))) (rise q d y n i c few small below apart big),
+          record { q = dist t n; j = c; small = lt-of-le-of-lt a small; is = dist-scale t n (2 ^ c) },
+          le-trans (le-of-eq (dist-scale t n (2 ^ c))) (mul-le-mul-right (2 ^ c) a),
         )
     go (inr l) =
         let k = cut (n * 2 ^ c) in
         let m : n * 2 ^ (c - k) * 2 ^ k ≡ n * 2 ^ c = mul-assoc n (2 ^ (c - k)) (2 ^ k) ∙ ap (λ (z : ℕ). n * z) (sym (pow-add 2 (c - k) k)) ∙ ap (λ (z : ℕ). n * 2 ^ z) (omega (arith, l .1)) in
         let z : dist (rounded (n * 2 ^ c)) (n * 2 ^ c) ≤ dist (n * 2 ^ (c - k) * 2 ^ k) (n * 2 ^ c) = no-nearer (n * 2 ^ c) (2 ^ k) (n * 2 ^ (c - k)) (pow-pos k) in
         let e : rounded (n * 2 ^ c) ≡ n * 2 ^ c = omega arith in
-        subst (Nearing (n * 2 ^ c) (q * 2 ^ d * 2 ^ c) (y * 2 ^ c)) (sym e)
-        ( record { q = y; j = c; small = small; is = dist-scale n (q * 2 ^ d) (2 ^ c) ∙ ap (λ (z : ℕ). z * 2 ^ c) (omega arith) }
-        , record { q = 0; j = 0; small = lit< tt; is = omega arith }
-        , omega arith
+        subst (Nearing (n * 2 ^ c) (q * 2 ^ d * 2 ^ c) (y * 2 ^ c)) (sym e) (
+          record { q = y; j = c; small = small; is = dist-scale n (q * 2 ^ d) (2 ^ c) ∙ ap (λ (z : ℕ). z * 2 ^ c) (omega arith) },
+          record { q = 0; j = 0; small = lit< tt; is = omega arith },
+          omega arith,
         )
 
 -- the summands in a common unit
@@ -204,6 +204,7 @@ near-at s y n c q d z few small es ey below apart = go (leb-tells s n)
         subst (λ (x : ℕ). Nearing x s y (rounded x)) (sym e)
         (subst (λ (x : ℕ). Nearing (m * 2 ^ c) x y (rounded (m * 2 ^ c))) (sym es)
         (subst (λ (x : ℕ). Nearing (m * 2 ^ c) (q * 2 ^ d * 2 ^ c) x (rounded (m * 2 ^ c))) (sym ey) at))
+
     go : ((leb s n ≡ true) × (s ≤ n)) ⊎ ((leb s n ≡ false) × (n < s)) → Nearing n s y (rounded n)
     go (inl l) = with-units (q * 2 ^ d + z) (let e : n ≡ s + y = omega (arith, l .1) in e ∙ ap₂ (λ a b. a + b) es ey ∙ sym (add-mul (q * 2 ^ d) z (2 ^ c)))
     go (inr l) = with-units (q * 2 ^ d - z) (let e : n ≡ s - y = omega (arith, l .1) in e ∙ ap₂ (λ a b. a - b) es ey ∙ sym (minus-scale (q * 2 ^ d) z (2 ^ c)))

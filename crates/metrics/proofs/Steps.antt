@@ -34,11 +34,11 @@ zero-most true true = refl
 
 pub stats-laws : Stats-laws
 stats-laws = record {
-    nan-least = λ s n y h. nan-least (s .low);
-    nan-greatest = λ s n y l. nan-most (s .high);
-    zero-least = λ s n y h a b e. ap (λ x. least x (zero b)) e ∙ zero-least a b;
-    zero-greatest = λ s n y l a b e. ap (λ x. most x (zero b)) e ∙ zero-most a b;
-    not-finite = λ s n y l h e.
-        let t = add binary64 (s .sum) y in
-        ap (λ b. cond b (sub binary64 (sub binary64 t (s .sum)) y) (ofBits binary64 0)) e;
-  }
+  nan-least = λ s n y h. nan-least (s .low);
+  nan-greatest = λ s n y l. nan-most (s .high);
+  zero-least = λ s n y h a b e. ap (λ x. least x (zero b)) e ∙ zero-least a b;
+  zero-greatest = λ s n y l a b e. ap (λ x. most x (zero b)) e ∙ zero-most a b;
+  not-finite = λ s n y l h e.
+      let t = add binary64 (s .sum) y in
+      ap (λ b. cond b (sub binary64 (sub binary64 t (s .sum)) y) (ofBits binary64 0)) e;
+}

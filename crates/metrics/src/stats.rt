@@ -81,7 +81,10 @@ impl IntermediateStats {
         let (min, max) = if self.count == 0 {
             (None, None)
         } else {
-            (Some(f64_from_bits_with_nan(self.min)), Some(f64_from_bits_with_nan(self.max)))
+            (
+                Some(f64_from_bits_with_nan(self.min)),
+                Some(f64_from_bits_with_nan(self.max)),
+            )
         };
         Stats {
             count: self.count,
@@ -122,14 +125,19 @@ fn kahan(sum: f64, y: f64) -> (f64, f64)
     ensures { λ r. ⌜ r ≡ (add binary64 sum y, excess sum y) ⌝ }
 {
     let t = sum + y;
-    if t.is_finite() { (t, (t - sum) - y) } else { (t, 0.0) }
+    if t.is_finite() {
+        (t, (t - sum) - y)
+    } else {
+        (t, 0.0)
+    }
 }
 
 /// Whether two patterns stand for the same float; any NaN is one.
 fn same_float(a: u64, b: u64) -> bool
     ensures { λ r. ⌜ Decides r (ofBits binary64 a ≡ ofBits binary64 b) ⌝ }
 {
-    f64_to_bits_with_nan(f64_from_bits_with_nan(a)) == f64_to_bits_with_nan(f64_from_bits_with_nan(b))
+    f64_to_bits_with_nan(f64_from_bits_with_nan(a))
+        == f64_to_bits_with_nan(f64_from_bits_with_nan(b))
 }
 
 pub impl Tally for IntermediateStats as IntermediateStatsIsTally {
@@ -174,7 +182,8 @@ pub impl Joinable for IntermediateStats as IntermediateStatsIsJoinable {
     ghost joined = { merged };
 
     fn merge_fruits(&mut self, other: &IntermediateStats) {
-        let y = other.sum() - (f64_from_bits_with_nan(self.delta) + f64_from_bits_with_nan(other.delta));
+        let y = other.sum()
+            - (f64_from_bits_with_nan(self.delta) + f64_from_bits_with_nan(other.delta));
         self.advance(
             other.count,
             y,
