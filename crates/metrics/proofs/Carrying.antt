@@ -1,16 +1,16 @@
 -- The compensation is what an addition rounds off: the difference of the rounded sum and the larger summand, and that less
 -- the smaller one, have few digits, so neither is rounded (Dekker). All in units of the smallest positive f64.
 use mathlib.Core.Path.{_≡_, refl, sym, ap, ap₂, subst, _∙_}
-use mathlib.Core.Bool.{Bool, true, false, not, cond, Bool·beq, _&&_, true≢false, false≢true}
-use mathlib.Core.Logic.{_⊎_, inl, inr}
+use mathlib.Core.Bool.{Bool, true, false, not, cond, Bool·beq, _&&_, false≢true}
+use mathlib.Core.Logic.{_⊎_, inl, inr, ⊎-elim}
 use Prim.Native.Nat.{ℕ, zero, suc, _+_, _-_, _*_, _/_, _%_, _^_, _≤_, _<_}
-use native.Mathlib.Nat.{le-of-eq, le-trans, lt-of-le-of-lt, lt-of-lt-of-le, mul-le-mul-right, mul-lt-mul-of-pos-right, mul-assoc, mul-comm, mul-right-comm, mul-one, add-mul, mul-pos, mul-div-cancel, zero-lt-suc, eq-of-mul-eq-mul-right, le-of-mul-le-mul-right}
+use native.Mathlib.Nat.{le-of-eq, lt-of-le-of-lt, mul-le-mul-right, mul-lt-mul-of-pos-right, mul-assoc, mul-comm, mul-right-comm, mul-one, add-mul, mul-pos, mul-div-cancel}
 use native.Mathlib.Omega.{arith}
 use lib.Dec.{T, leb, ltb, eqb, ltb→lt, leb→le, lit<}
 use lib.IntN.{ℤ, pos, negsuc, negℤ, natAbs, _+ℤ_}
 use lib.Pow.{pow-add, pow-pos, pow-lt}
 use lib.Ieee.{Float, nan, inf, fin, binary64, prec, emax, low, up, down, size, odd, units, round, sum, add, sub, neg, fits, ofBits}
-use lib.Ieee.Fits.{up-pos, down-pos, and-l, and-r, core, round-is}
+use lib.Ieee.Fits.{down-pos, and-l, and-r, core, round-is}
 use lib.Ieee.Exact.{HasValue, round-exact, units-val}
 use lib.Ieee.Nearest.{closest, closest-same}
 use lib.Ieee.Bits.{ofBits-fits}
@@ -19,9 +19,7 @@ use Rattle.std.specs.Floats.{finite}
 use Rattle.std.proofs.shelf.Ways.{leb-tells}
 use Rattle.std.proofs.shelf.Signed.{ints}
 use Rattle.metrics.specs.Carry.{signed, in-units, Carries}
-use Rattle.metrics.specs.Sums.{Sums, advanced, stats-worth}
-use Rattle.metrics.specs.declared.stats.IntermediateStats.{IntermediateStats}
-use Rattle.metrics.proofs.Nearing.{dist, cut, rounded, Few, near, minus-scale}
+use Rattle.metrics.proofs.Nearing.{dist, cut, rounded, Few, near, minus-scale, which}
 
 abbrev unit : ℕ
 unit = 2 ^ low binary64
@@ -68,11 +66,7 @@ size-down l t m k le h =
     )
 
 below-pow : (a b : ℕ) → 2 ^ a ≤ 2 ^ b → a ≤ b
-below-pow a b h = go (leb-tells a b)
-  where
-    go : ((leb a b ≡ true) × (a ≤ b)) ⊎ ((leb a b ≡ false) × (b < a)) → a ≤ b
-    go (inl l) = l .1
-    go (inr l) = let p : 2 ^ b < 2 ^ a = pow-lt (l .1) in absurd (omega arith)
+below-pow a b h = ⊎-elim (λ l. l) (λ l. let p : 2 ^ b < 2 ^ a = pow-lt l in absurd (omega arith)) (which a b)
 
 nil-times : (a b c : ℕ) → 0 * a * b ≡ 0 * c
 nil-times a b c = omega arith
@@ -201,16 +195,8 @@ abs-signed true (suc n) = refl
 
 -- the distance of two numbers of one sign, with some sign
 gap : (b : Bool) (m n : ℕ) → (a : Bool) × (signed a (dist m n) ≡ signed b m +ℤ negℤ (signed b n))
-gap false m n = go (leb-tells m n)
-  where
-    go : ((leb m n ≡ true) × (m ≤ n)) ⊎ ((leb m n ≡ false) × (n < m)) → (a : Bool) × (signed a (dist m n) ≡ signed false m +ℤ negℤ (signed false n))
-    go (inl h) = (true, let l : m ≤ n = h .1 in omega (arith, ints))
-    go (inr h) = (false, let l : n < m = h .1 in omega (arith, ints))
-gap true m n = go (leb-tells m n)
-  where
-    go : ((leb m n ≡ true) × (m ≤ n)) ⊎ ((leb m n ≡ false) × (n < m)) → (a : Bool) × (signed a (dist m n) ≡ signed true m +ℤ negℤ (signed true n))
-    go (inl h) = (false, let l : m ≤ n = h .1 in omega (arith, ints))
-    go (inr h) = (true, let l : n < m = h .1 in omega (arith, ints))
+gap false m n = ⊎-elim (λ h. (true, omega (arith, ints))) (λ h. (false, omega (arith, ints))) (which m n)
+gap true m n = ⊎-elim (λ h. (false, omega (arith, ints))) (λ h. (true, omega (arith, ints))) (which m n)
 
 -- the larger of two numbers lies the smaller away from their sum
 apart : (a b c : Bool) (s y n : ℕ) → y ≤ s → signed c n ≡ signed a s +ℤ signed b y → dist s n ≡ y

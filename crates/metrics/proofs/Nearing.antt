@@ -1,16 +1,16 @@
 -- Numbers rounded to 53 digits: a sum of two such numbers, rounded, differs from the larger of them and from the exact sum
 -- by such numbers. Nothing here is about floats.
 use mathlib.Core.Path.{_≡_, refl, sym, ap, ap₂, subst, _∙_}
-use mathlib.Core.Bool.{not, true, false}
-use mathlib.Core.Logic.{_⊎_, inl, inr}
+use mathlib.Core.Bool.{not}
+use mathlib.Core.Logic.{_⊎_, inl, inr, ⊎-elim}
 use Prim.Native.Nat.{ℕ, zero, suc, _+_, _-_, _*_, _/_, _%_, _^_, _≤_, _<_, compare, Ordering, Ordering·lt, Ordering·eq, Ordering·gt}
-use native.Mathlib.Nat.{le-of-eq, le-trans, lt-of-lt-of-le, lt-of-le-of-lt, mul-le-mul-right, mul-le-mul-left, suc-mul, mul-assoc, mul-comm, mul-right-comm, add-mul, mul-sub, mul-pos, div-add-mod', mod-lt, le-of-mul-le-mul-right, eq-of-mul-eq-mul-right, mul-le-mul-left, suc-mul, pow-suc}
+use native.Mathlib.Nat.{le-of-eq, le-trans, lt-of-le-of-lt, mul-le-mul-right, mul-le-mul-left, suc-mul, mul-assoc, mul-comm, add-mul, mul-sub, mul-pos, div-add-mod', mod-lt, le-of-mul-le-mul-right, eq-of-mul-eq-mul-right, mul-le-mul-left, suc-mul, pow-suc}
 use native.Mathlib.Omega.{arith}
 use lib.Arith.{lt-of-le-ne}
-use lib.Dec.{T, leb, lit<, isLe, isEq, eqb, leb→le, nleb→lt, eqb→eq, eqb-refl}
+use lib.Dec.{T, lit<, isLe, isEq, eqb, leb→le, nleb→lt, eqb→eq, eqb-refl}
 use lib.Pow.{pow-add, pow-pos, pow-mono}
 use lib.Ieee.{size, nearest}
-use lib.Ieee.Digits.{size-lt, size-reaches}
+use lib.Ieee.Digits.{size-reaches}
 use lib.Ieee.Nearest.{closest, closest-same}
 use Rattle.std.proofs.shelf.Ways.{leb-tells}
 
@@ -31,6 +31,9 @@ pub record Few (n : ℕ) : Type 0 where
   pub j : ℕ
   pub small : q < 2 ^ 53
   pub is : n ≡ q * 2 ^ j
+
+pub which : (a b : ℕ) → (a ≤ b) ⊎ (b < a)
+which a b = ⊎-elim (λ h. inl (h .1)) (λ h. inr (h .1)) (leb-tells a b)
 
 -- ---- what `compare` says
 abbrev Cmp : Ordering → ℕ → ℕ → Type 0
@@ -62,14 +65,8 @@ within n w q r Ordering·gt e l c =
 closest-within : (n w : ℕ) → 0 < w → (2 * (closest n w * w) ≤ 2 * n + w) × (2 * n ≤ 2 * (closest n w * w) + w)
 closest-within n w h = within n w (n / w) (n % w) (compare (n % w * 2) w) (div-add-mod' n w) (mod-lt n h) (cmp (n % w * 2) w)
 
--- one of two numbers is less, or they are equal
 three : (a b : ℕ) → (a < b) ⊎ ((a ≡ b) ⊎ (b < a))
-three a b = go (leb-tells (suc a) b) (leb-tells (suc b) a)
-  where
-    go : ((leb (suc a) b ≡ true) × (suc a ≤ b)) ⊎ ((leb (suc a) b ≡ false) × (b < suc a)) → ((leb (suc b) a ≡ true) × (suc b ≤ a)) ⊎ ((leb (suc b) a ≡ false) × (a < suc b)) → (a < b) ⊎ ((a ≡ b) ⊎ (b < a))
-    go (inl h) k = inl (h .1)
-    go (inr h) (inl k) = inr (inr (k .1))
-    go (inr h) (inr k) = inr (inl (omega (arith, h .1, k .1)))
+three a b = ⊎-elim inl (λ h. inr (⊎-elim (λ k. inr k) (λ k. inl (omega arith)) (which (suc b) a))) (which (suc a) b)
 
 -- so no multiple is nearer
 no-nearer : (n w j : ℕ) → 0 < w → dist (closest n w * w) n ≤ dist (j * w) n
@@ -117,15 +114,15 @@ reaches m c i e =
 -- summand or the least number of that size is a multiple too; and by half a multiple at most.
 module _ (q d y n i : ℕ) (few : q < 2 ^ 53) (apart : dist (q * 2 ^ d) n ≡ y) (big : 2 ^ 52 * 2 ^ suc i ≤ n) where
   by-y : dist (closest n (2 ^ suc i) * 2 ^ suc i) n ≤ y
-  by-y = go (leb-tells (suc i) d)
+  by-y = go (which (suc i) d)
     where
-      go : ((leb (suc i) d ≡ true) × (suc i ≤ d)) ⊎ ((leb (suc i) d ≡ false) × (d < suc i)) → dist (closest n (2 ^ suc i) * 2 ^ suc i) n ≤ y
+      go : (suc i ≤ d) ⊎ (d < suc i) → dist (closest n (2 ^ suc i) * 2 ^ suc i) n ≤ y
       go (inl h) =
-          let l : suc i ≤ d = h .1 in
+          let l : suc i ≤ d = h in
           let j : q * 2 ^ d ≡ q * 2 ^ (d - suc i) * 2 ^ suc i = ap (λ (z : ℕ). q * 2 ^ z) (omega arith) ∙ ap (λ (z : ℕ). q * z) (pow-add 2 (d - suc i) (suc i)) ∙ sym (mul-assoc q (2 ^ (d - suc i)) (2 ^ suc i)) in
           le-trans (no-nearer n (2 ^ suc i) (q * 2 ^ (d - suc i)) (pow-pos (suc i))) (le-of-eq (ap (λ (z : ℕ). dist z n) (sym j) ∙ apart))
       go (inr h) =
-          let l : 2 ^ d ≤ 2 ^ i = pow-mono (omega (arith, h .1)) in
+          let l : 2 ^ d ≤ 2 ^ i = pow-mono (omega (arith, h)) in
           let a : q * 2 ^ d ≤ 2 ^ 53 * 2 ^ i = le-trans (mul-le-mul-right (2 ^ d) (omega (arith, few))) (mul-le-mul-left (2 ^ 53) l) in
           let b : 2 ^ suc i ≡ 2 ^ i * 2 = pow-suc 2 i in
           let m = no-nearer n (2 ^ suc i) (2 ^ 52) (pow-pos (suc i)) in
@@ -148,11 +145,11 @@ rise q zero y n i c few small below apart big =
     let a = by-y q zero y n i few apart big in
     let b = by-half q zero y n i few apart big in
     let e : 2 ^ suc i ≡ 2 ^ i * 2 = pow-suc 2 i in
-    go (dist t (q * 1)) (omega arith) (leb-tells (suc (dist t (q * 1))) (2 ^ 53))
+    go (dist t (q * 1)) (omega arith) (which (suc (dist t (q * 1))) (2 ^ 53))
   where
-    go : (x : ℕ) → x ≤ 2 ^ 53 → ((leb (suc x) (2 ^ 53) ≡ true) × (suc x ≤ 2 ^ 53)) ⊎ ((leb (suc x) (2 ^ 53) ≡ false) × (2 ^ 53 < suc x)) → Few (x * 2 ^ c)
-    go x h (inl l) = record { q = x; j = c; small = l .1; is = refl }
-    go x h (inr l) = record { q = 2 ^ 52; j = suc c; small = lit< tt; is = ap (λ (z : ℕ). z * 2 ^ c) (omega (arith, l .1)) ∙ double (2 ^ 52) c }
+    go : (x : ℕ) → x ≤ 2 ^ 53 → (suc x ≤ 2 ^ 53) ⊎ (2 ^ 53 < suc x) → Few (x * 2 ^ c)
+    go x h (inl l) = record { q = x; j = c; small = l; is = refl }
+    go x h (inr l) = record { q = 2 ^ 52; j = suc c; small = lit< tt; is = ap (λ (z : ℕ). z * 2 ^ c) (omega (arith, l)) ∙ double (2 ^ 52) c }
 rise q (suc d) y n i c few small below apart big =
     let m = closest n (2 ^ suc i) in
     let a = by-y q (suc d) y n i few apart big in
@@ -167,12 +164,12 @@ Nearing n s y t = Few (dist t s) × Few (dist t n) × (dist t n ≤ y)
 
 -- either the sum is rounded to a coarser unit, or it is exact
 near-scaled : (c q d y n : ℕ) → q < 2 ^ 53 → y < 2 ^ 53 → y ≤ q * 2 ^ d → dist (q * 2 ^ d) n ≡ y → Nearing (n * 2 ^ c) (q * 2 ^ d * 2 ^ c) (y * 2 ^ c) (rounded (n * 2 ^ c))
-near-scaled c q d y n few small below apart = go (leb-tells (suc c) (cut (n * 2 ^ c)))
+near-scaled c q d y n few small below apart = go (which (suc c) (cut (n * 2 ^ c)))
   where
-    go : ((leb (suc c) (cut (n * 2 ^ c)) ≡ true) × (suc c ≤ cut (n * 2 ^ c))) ⊎ ((leb (suc c) (cut (n * 2 ^ c)) ≡ false) × (cut (n * 2 ^ c) < suc c)) → Nearing (n * 2 ^ c) (q * 2 ^ d * 2 ^ c) (y * 2 ^ c) (rounded (n * 2 ^ c))
+    go : (suc c ≤ cut (n * 2 ^ c)) ⊎ (cut (n * 2 ^ c) < suc c) → Nearing (n * 2 ^ c) (q * 2 ^ d * 2 ^ c) (y * 2 ^ c) (rounded (n * 2 ^ c))
     go (inl l) =
         let i = cut (n * 2 ^ c) - suc c in
-        let e : cut (n * 2 ^ c) ≡ c + suc i = omega (arith, l .1) in
+        let e : cut (n * 2 ^ c) ≡ c + suc i = omega (arith, l) in
         let big = reaches n c i e in
         let t = closest n (2 ^ suc i) * 2 ^ suc i in
         let a : dist t n ≤ y = by-y q d y n i few apart big in
@@ -183,7 +180,7 @@ near-scaled c q d y n few small below apart = go (leb-tells (suc c) (cut (n * 2 
         )
     go (inr l) =
         let k = cut (n * 2 ^ c) in
-        let m : n * 2 ^ (c - k) * 2 ^ k ≡ n * 2 ^ c = mul-assoc n (2 ^ (c - k)) (2 ^ k) ∙ ap (λ (z : ℕ). n * z) (sym (pow-add 2 (c - k) k)) ∙ ap (λ (z : ℕ). n * 2 ^ z) (omega (arith, l .1)) in
+        let m : n * 2 ^ (c - k) * 2 ^ k ≡ n * 2 ^ c = mul-assoc n (2 ^ (c - k)) (2 ^ k) ∙ ap (λ (z : ℕ). n * z) (sym (pow-add 2 (c - k) k)) ∙ ap (λ (z : ℕ). n * 2 ^ z) (omega (arith, l)) in
         let z : dist (rounded (n * 2 ^ c)) (n * 2 ^ c) ≤ dist (n * 2 ^ (c - k) * 2 ^ k) (n * 2 ^ c) = no-nearer (n * 2 ^ c) (2 ^ k) (n * 2 ^ (c - k)) (pow-pos k) in
         let e : rounded (n * 2 ^ c) ≡ n * 2 ^ c = omega arith in
         subst (Nearing (n * 2 ^ c) (q * 2 ^ d * 2 ^ c) (y * 2 ^ c)) (sym e) (
@@ -194,7 +191,7 @@ near-scaled c q d y n few small below apart = go (leb-tells (suc c) (cut (n * 2 
 
 -- the summands in a common unit
 near-at : (s y n c q d z : ℕ) → q < 2 ^ 53 → z < 2 ^ 53 → s ≡ q * 2 ^ d * 2 ^ c → y ≡ z * 2 ^ c → y ≤ s → dist s n ≡ y → Nearing n s y (rounded n)
-near-at s y n c q d z few small es ey below apart = go (leb-tells s n)
+near-at s y n c q d z few small es ey below apart = go (which s n)
   where
     with-units : (m : ℕ) → n ≡ m * 2 ^ c → Nearing n s y (rounded n)
     with-units m e =
@@ -205,22 +202,22 @@ near-at s y n c q d z few small es ey below apart = go (leb-tells s n)
         (subst (λ (x : ℕ). Nearing (m * 2 ^ c) x y (rounded (m * 2 ^ c))) (sym es)
         (subst (λ (x : ℕ). Nearing (m * 2 ^ c) (q * 2 ^ d * 2 ^ c) x (rounded (m * 2 ^ c))) (sym ey) at))
 
-    go : ((leb s n ≡ true) × (s ≤ n)) ⊎ ((leb s n ≡ false) × (n < s)) → Nearing n s y (rounded n)
-    go (inl l) = with-units (q * 2 ^ d + z) (let e : n ≡ s + y = omega (arith, l .1) in e ∙ ap₂ (λ a b. a + b) es ey ∙ sym (add-mul (q * 2 ^ d) z (2 ^ c)))
-    go (inr l) = with-units (q * 2 ^ d - z) (let e : n ≡ s - y = omega (arith, l .1) in e ∙ ap₂ (λ a b. a - b) es ey ∙ sym (minus-scale (q * 2 ^ d) z (2 ^ c)))
+    go : (s ≤ n) ⊎ (n < s) → Nearing n s y (rounded n)
+    go (inl l) = with-units (q * 2 ^ d + z) (let e : n ≡ s + y = omega (arith, l) in e ∙ ap₂ (λ a b. a + b) es ey ∙ sym (add-mul (q * 2 ^ d) z (2 ^ c)))
+    go (inr l) = with-units (q * 2 ^ d - z) (let e : n ≡ s - y = omega (arith, l) in e ∙ ap₂ (λ a b. a - b) es ey ∙ sym (minus-scale (q * 2 ^ d) z (2 ^ c)))
 
 shift : (q a c : ℕ) → c ≤ a → q * 2 ^ a ≡ q * 2 ^ (a - c) * 2 ^ c
 shift q a c h = ap (λ (z : ℕ). q * 2 ^ z) (omega arith) ∙ ap (λ (z : ℕ). q * z) (pow-add 2 (a - c) c) ∙ sym (mul-assoc q (2 ^ (a - c)) (2 ^ c))
 
 pub near : (s y n : ℕ) → Few s → Few y → y ≤ s → dist s n ≡ y → Nearing n s y (rounded n)
-near s y n rs ry below apart = go (leb-tells (rs .j) (ry .j))
+near s y n rs ry below apart = go (which (rs .j) (ry .j))
   where
-    go : ((leb (rs .j) (ry .j) ≡ true) × (rs .j ≤ ry .j)) ⊎ ((leb (rs .j) (ry .j) ≡ false) × (ry .j < rs .j)) → Nearing n s y (rounded n)
+    go : (rs .j ≤ ry .j) ⊎ (ry .j < rs .j) → Nearing n s y (rounded n)
     go (inl l) =
         let z = ry .q * 2 ^ (ry .j - rs .j) in
-        let ey : y ≡ z * 2 ^ rs .j = ry .is ∙ shift (ry .q) (ry .j) (rs .j) (l .1) in
+        let ey : y ≡ z * 2 ^ rs .j = ry .is ∙ shift (ry .q) (ry .j) (rs .j) l in
         let es : s ≡ rs .q * 2 ^ 0 * 2 ^ rs .j = rs .is ∙ ap (λ (x : ℕ). x * 2 ^ rs .j) (omega arith) in
         let le : z ≤ rs .q = le-of-mul-le-mul-right (le-trans (le-of-eq (sym ey)) (le-trans below (le-of-eq (rs .is)))) (pow-pos (rs .j)) in
         near-at s y n (rs .j) (rs .q) 0 z (rs .small) (lt-of-le-of-lt le (rs .small)) es ey below apart
     go (inr l) =
-        near-at s y n (ry .j) (rs .q) (rs .j - ry .j) (ry .q) (rs .small) (ry .small) (rs .is ∙ shift (rs .q) (rs .j) (ry .j) (omega (arith, l .1))) (ry .is) below apart
+        near-at s y n (ry .j) (rs .q) (rs .j - ry .j) (ry .q) (rs .small) (ry .small) (rs .is ∙ shift (rs .q) (rs .j) (ry .j) (omega (arith, l))) (ry .is) below apart

@@ -1,10 +1,9 @@
 -- The laws of a step: what `least`, `most` and the test for a finite sum answer.
 use mathlib.Core.Path.{_≡_, refl, ap, _∙_}
-use mathlib.Core.Bool.{Bool, true, false, cond, _||_}
+use mathlib.Core.Bool.{Bool, true, false, cond}
 use lib.Ieee.{Float, nan, inf, fin, binary64, add, sub, le, lt, eq, isNan, ofBits}
 use Rattle.std.specs.Floats.{finite, least, most}
 use Rattle.metrics.specs.StatsLaws.{Stats-laws, zero}
-use Rattle.metrics.specs.Sums.{Sums, advanced}
 
 nan-least : (x : Float) → least x nan ≡ x
 unfolding le lt eq isNan

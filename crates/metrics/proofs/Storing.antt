@@ -8,7 +8,7 @@ use lib.Ieee.Bits.{ofBits-toBits, ofBits-fits}
 use lib.Ieee.Fits.{add-fits, sub-fits, cond-fits}
 use Rattle.std.specs.Orderings.{Decides}
 use Rattle.std.proofs.shelf.Ways.{decides-eqb, decides-like}
-use Rattle.metrics.specs.Sums.{Sums, advanced, stats-worth, stored}
+use Rattle.metrics.specs.Sums.{advanced, stats-worth, stored}
 use Rattle.metrics.specs.declared.stats.IntermediateStats.{IntermediateStats}
 
 pub holds : {b : Bool} → b ≡ true → T b

@@ -7,7 +7,6 @@ use native.Mathlib.Nat.{le-refl}
 use native.Mathlib.Omega.{arith}
 use Rattle.std.specs.declared.option.Option.the-variants.{Some, None}
 use Rattle.records.specs.declared.column_type.ColumnType.{ColumnType}
-use Rattle.std.specs.shelf.Lists.{All}
 use Rattle.std.proofs.shelf.Elements.{all-push, all-weaker}
 use Rattle.std.proofs.shelf.Ways.{leb-tells}
 use Rattle.metrics.specs.Ends.{Ends, Ends-of, Reaches, widened, reaching}

@@ -1,4 +1,3 @@
-use borrow.Author.Needs.{needs}
 use native.Mathlib.Omega.{arith}
 use Rattle.metrics.proofs.Counting.{counted-is}
 use Rattle.metrics.proofs.number.NumberIsJoinable.merge_fruits.Needs as need
