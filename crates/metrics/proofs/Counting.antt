@@ -23,11 +23,11 @@ counted-is a b p =
 
 pub number-laws : Exactly (capped 0) (λ _ _. one-more) added
 number-laws = record {
-    assoc = λ a b c. counted-is _ _ (omega arith);
-    comm = λ a b. counted-is _ _ (omega arith);
-    neutral = λ a. counted-is _ a (omega (arith, a .most));
-    feeding = λ t v a. counted-is _ _ (omega arith);
-  }
+  assoc = λ a b c. counted-is _ _ (omega arith);
+  comm = λ a b. counted-is _ _ (omega arith);
+  neutral = λ a. counted-is _ a (omega (arith, a .most));
+  feeding = λ t v a. counted-is _ _ (omega arith);
+}
 
 -- below the cap nothing is cut off
 pub same-count : (a b : ℕ) → a < 2 ^ 64 → b < 2 ^ 64 → Decides (eqb a b) (capped a ≡ capped b)

@@ -31,6 +31,6 @@ fed-apart {worth = worth} {nothing = nothing} {fed = fed} b t xs ys x₀ y₀ x 
     let first : worth x ≡ fed-all fed t xs nothing = p ∙ ap (fed-all fed t xs) nx in
     let second : worth y ≡ fed-all fed t ys nothing = q ∙ ap (fed-all fed t ys) ny in
     let both : worth r ≡ b .joined (fed-all fed t xs nothing) (fed-all fed t ys nothing) =
-        merged-below b x y r e ∙ ap (λ w. b .joined w (worth y)) first ∙ ap (b .joined (fed-all fed t xs nothing)) second
+    merged-below b x y r e ∙ ap (λ w. b .joined w (worth y)) first ∙ ap (b .joined (fed-all fed t xs nothing)) second
     in
     (both ∙ sym (fed-joins fed t (b .laws) xs ys), both ∙ b .laws .comm _ _ ∙ sym (fed-joins fed t (b .laws) ys xs))

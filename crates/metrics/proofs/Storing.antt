@@ -8,10 +8,10 @@ use lib.Ieee.Bits.{ofBits-toBits, ofBits-fits}
 use lib.Ieee.Fits.{add-fits, sub-fits, cond-fits}
 use Rattle.std.specs.Orderings.{Decides}
 use Rattle.std.proofs.shelf.Ways.{decides-eqb, decides-like}
-use Rattle.metrics.specs.Sums.{Sums, advanced, stats-worth, stored}
+use Rattle.metrics.specs.Sums.{advanced, stats-worth, stored}
 use Rattle.metrics.specs.declared.stats.IntermediateStats.{IntermediateStats}
 
-holds : {b : Bool} → b ≡ true → T b
+pub holds : {b : Bool} → b ≡ true → T b
 holds e = subst T (sym e) tt
 
 pub read-back : (s : IntermediateStats) (n : ℕ) (y l h : Float) → fits binary64 l ≡ true → fits binary64 h ≡ true → stats-worth (stored (advanced (stats-worth s) n y l h)) ≡ advanced (stats-worth s) n y l h

@@ -10,12 +10,12 @@ alike worth = record { to = λ w. w; back = λ w. w; back-to = λ w. refl; to-ba
 pub rules-alike : {S W : Type 0} (worth : S → W) (nothing : W) (fed : ColumnType → ℕ → W → W) (joined : W → W → W) → Same-rules worth nothing fed worth joined worth nothing fed joined
 unfolding alike
 rules-alike worth nothing fed joined = record {
-    tally = alike worth;
-    empty = refl;
-    feeds = λ t v w. refl;
-    joinable = alike worth;
-    joins = λ a b. refl;
-  }
+  tally = alike worth;
+  empty = refl;
+  feeds = λ t v w. refl;
+  joinable = alike worth;
+  joins = λ a b. refl;
+}
 
 module _ {S V U W : Type 0} {t-worth : S → V} {t-nothing : V} {t-fed : ColumnType → ℕ → V → V} {j-worth : S → U} {j-joined : U → U → U} {worth : S → W} {nothing : W} {fed : ColumnType → ℕ → W → W} {joined : W → W → W} where
   -- worths are joined by reading them over, joining there and reading back
@@ -58,9 +58,9 @@ pub merged-below : {S V U : Type 0} {worth : S → V} {nothing : V} {fed : Colum
 merged-below {worth = worth} {j-joined = j-joined} b x y r e =
     let j = b .joinable in
     let over : j .to (worth r) ≡ j .to (b .joined (worth x) (worth y)) =
-        j .same r
-        ∙ e
-        ∙ sym (ap (λ u. j-joined u (j .to (worth y))) (j .same x) ∙ ap (j-joined _) (j .same y))
-        ∙ sym (b .joins (worth x) (worth y))
+    j .same r
+    ∙ e
+    ∙ sym (ap (λ u. j-joined u (j .to (worth y))) (j .same x) ∙ ap (j-joined _) (j .same y))
+    ∙ sym (b .joins (worth x) (worth y))
     in
     sym (j .back-to (worth r)) ∙ ap (j .back) over ∙ j .back-to _

@@ -7,7 +7,6 @@ use native.Mathlib.Nat.{le-refl}
 use native.Mathlib.Omega.{arith}
 use Rattle.std.specs.declared.option.Option.the-variants.{Some, None}
 use Rattle.records.specs.declared.column_type.ColumnType.{ColumnType}
-use Rattle.std.specs.shelf.Lists.{All}
 use Rattle.std.proofs.shelf.Elements.{all-push, all-weaker}
 use Rattle.std.proofs.shelf.Ways.{leb-tells}
 use Rattle.metrics.specs.Ends.{Ends, Ends-of, Reaches, widened, reaching}
@@ -46,11 +45,11 @@ among us v a n m (inr e) = Memᴰ·cast e (Memᴰ·append-right us (List·Memᴰ
 reaches-more : (t : ColumnType) (us : List ℕ) (v : ℕ) (e : Ends) → Ends-of us e → Ends-of (us ++ (v ∷ [])) (reaching t v e)
 reaches-more t us v None h =
     subst (λ (l : List ℕ). Ends-of (l ++ (v ∷ [])) (Some (v, v))) (sym h) (List·Memᴰ·head refl, List·Memᴰ·head refl, ((le-refl v, le-refl v), tt))
-reaches-more t us v (Some p) h =
-    ( among us v (p .0) (min (p .0) v) (h .0) (lesser (p .0) v)
-    , among us v (p .1) (max (p .1) v) (h .1) (larger (p .1) v)
-    , all-push (λ n. (min (p .0) v ≤ n) × (n ≤ max (p .1) v)) us v (all-weaker (λ n. (p .0 ≤ n) × (n ≤ p .1)) (λ n. (min (p .0) v ≤ n) × (n ≤ max (p .1) v)) (λ n k. (omega (arith, k .0), omega (arith, k .1))) us (h .2)) (omega arith, omega arith)
-    )
+reaches-more t us v (Some p) h = (
+  among us v (p .0) (min (p .0) v) (h .0) (lesser (p .0) v),
+  among us v (p .1) (max (p .1) v) (h .1) (larger (p .1) v),
+  all-push (λ n. (min (p .0) v ≤ n) × (n ≤ max (p .1) v)) us v (all-weaker (λ n. (p .0 ≤ n) × (n ≤ p .1)) (λ n. (min (p .0) v ≤ n) × (n ≤ max (p .1) v)) (λ n k. (omega (arith, k .0), omega (arith, k .1))) us (h .2)) (omega arith, omega arith),
+)
 
 -- by recursion on the values still to be fed
 reaches-on : (t : ColumnType) (vs us : List ℕ) (e : Ends) → Ends-of us e → Ends-of (us ++ vs) (fed-all reaching t vs e)

@@ -15,11 +15,11 @@ pub record Counted : Type 0 where
 abbrev pub capped : ℕ → Counted
 capped n = record { count = min n (2 ^ 64 - 1); most = min-le-right n (2 ^ 64 - 1) }
 
-abbrev pub one-more : Counted → Counted
-one-more c = capped (c .count + 1)
-
 abbrev pub added : Counted → Counted → Counted
 added c d = capped (c .count + d .count)
+
+abbrev pub one-more : Counted → Counted
+one-more c = added c (capped 1)
 
 -- what a Number is worth
 abbrev pub number-worth : Number → Counted

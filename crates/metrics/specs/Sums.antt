@@ -1,5 +1,5 @@
 -- A running sum with its compensation, on the numbers themselves, and how IntermediateStats keeps them as bits.
-use mathlib.Core.Bool.{Bool, true, false, cond}
+use mathlib.Core.Bool.{true, false, cond}
 use Prim.Native.Nat.{ℕ, _+_, _-_, _^_, min}
 use lib.Dec.{eqb}
 use lib.IntN.{pos}

@@ -1,6 +1,5 @@
 //! The smallest and the largest value.
 ghost use mathlib.Core.Path.{_≡_};
-ghost use Prim.Native.Nat.{ℕ};
 ghost use Rattle.std.specs.declared.option.Option.{Option};
 ghost use Rattle.std.specs.declared.option.Option.the-variants.{Some, None};
 ghost use Rattle.metrics.specs.Ends.{Ends, widened, reaching, least-of, greatest-of, Reaches};

@@ -19,6 +19,15 @@ impl Number {
     {
         self.count
     }
+
+    /// This number with `more` values counted in.
+    fn with(&self, more: u64) -> Number
+        ensures { λ r. ⌜ number-worth r ≡ added (number-worth (now (self .entry))) (capped more) ⌝ }
+    {
+        Number {
+            count: self.count.saturating_add(more),
+        }
+    }
 }
 
 pub impl Tally for Number as NumberIsTally {
@@ -35,7 +44,7 @@ pub impl Tally for Number as NumberIsTally {
     }
 
     fn feed(&mut self, _field_type: ColumnType, _val: u64) {
-        self.count = self.count.saturating_add(1);
+        *self = self.with(1);
     }
 
     fn same(&self, other: &Number) -> bool {
@@ -51,7 +60,7 @@ pub impl Joinable for Number as NumberIsJoinable {
     ghost joined = { added };
 
     fn merge_fruits(&mut self, other: &Number) {
-        self.count = self.count.saturating_add(other.count);
+        *self = self.with(other.count);
     }
 
     fn joinable_stands() -> u8 {

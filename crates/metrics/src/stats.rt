@@ -1,10 +1,11 @@
 //! Count, compensated sum, least and greatest of the values as numbers.
 ghost use mathlib.Core.Path.{_≡_};
-ghost use lib.Ieee.{binary64, ofBits};
+ghost use lib.Ieee.{binary64, ofBits, add, sub};
 ghost use Rattle.std.specs.Orderings.{Decides};
-ghost use Rattle.metrics.specs.Sums.{Sums, no-sums, advanced, collected, merged, stats-worth, stored, mean, finalized};
+ghost use Rattle.metrics.specs.Sums.{Sums, no-sums, excess, advanced, collected, merged, stats-worth, stored, mean, finalized};
 ghost use Rattle.numbers.specs.Columns.{number-of};
-ghost use Rattle.metrics.specs.Cases.{Worked};
+ghost use Rattle.metrics.specs.Carry.{Carried, Carries};
+ghost use Rattle.metrics.specs.StatsLaws.{Worked, Stats-laws};
 use crate::joinable::Joinable;
 use crate::tally::Tally;
 use numbers::fast_field::f64_from_fastfield_u64;
@@ -80,7 +81,10 @@ impl IntermediateStats {
         let (min, max) = if self.count == 0 {
             (None, None)
         } else {
-            (Some(f64_from_bits_with_nan(self.min)), Some(f64_from_bits_with_nan(self.max)))
+            (
+                Some(f64_from_bits_with_nan(self.min)),
+                Some(f64_from_bits_with_nan(self.max)),
+            )
         };
         Stats {
             count: self.count,
@@ -95,24 +99,36 @@ impl IntermediateStats {
     pub fn collect(&mut self, value: f64)
         ensures kept { λ _. ⌜ now (self .exit) ≡ stored (collected (stats-worth (now (self .entry))) value) ⌝ }
         ensures read { λ _. ⌜ stats-worth (now (self .exit)) ≡ collected (stats-worth (now (self .entry))) value ⌝ }
+        ensures carried { λ _. ⌜ Carried (stats-worth (now (self .entry))) (sub binary64 value (stats-worth (now (self .entry)) .delta)) (stats-worth (now (self .exit))) ⌝ }
     {
         let y = value - f64_from_bits_with_nan(self.delta);
         self.advance(1, y, value, value);
     }
 
-    /// Goes on by `count` values whose sum, less the compensation, is `y`: one step of Kahan's algorithm.
+    /// Goes on by `count` values with `y` to be added, and their least and greatest value.
     fn advance(&mut self, count: u64, y: f64, min: f64, max: f64)
         ensures kept { λ _. ⌜ now (self .exit) ≡ stored (advanced (stats-worth (now (self .entry))) count y min max) ⌝ }
         ensures read { λ _. ⌜ stats-worth (now (self .exit)) ≡ advanced (stats-worth (now (self .entry))) count y min max ⌝ }
+        ensures carried { λ _. ⌜ Carried (stats-worth (now (self .entry))) y (stats-worth (now (self .exit))) ⌝ }
     {
-        let sum = self.sum();
-        let t = sum + y;
-        let delta = if t.is_finite() { (t - sum) - y } else { 0.0 };
+        let (sum, delta) = kahan(self.sum(), y);
         self.count = self.count.saturating_add(count);
-        self.sum = f64_to_bits_with_nan(t);
+        self.sum = f64_to_bits_with_nan(sum);
         self.delta = f64_to_bits_with_nan(delta);
         self.min = f64_to_bits_with_nan(f64_from_bits_with_nan(self.min).min(min));
         self.max = f64_to_bits_with_nan(f64_from_bits_with_nan(self.max).max(max));
+    }
+}
+
+/// One step of Kahan's algorithm: the sum with `y` added, and its compensation, which is 0 where the sum is not finite.
+fn kahan(sum: f64, y: f64) -> (f64, f64)
+    ensures { λ r. ⌜ r ≡ (add binary64 sum y, excess sum y) ⌝ }
+{
+    let t = sum + y;
+    if t.is_finite() {
+        (t, (t - sum) - y)
+    } else {
+        (t, 0.0)
     }
 }
 
@@ -120,7 +136,8 @@ impl IntermediateStats {
 fn same_float(a: u64, b: u64) -> bool
     ensures { λ r. ⌜ Decides r (ofBits binary64 a ≡ ofBits binary64 b) ⌝ }
 {
-    f64_to_bits_with_nan(f64_from_bits_with_nan(a)) == f64_to_bits_with_nan(f64_from_bits_with_nan(b))
+    f64_to_bits_with_nan(f64_from_bits_with_nan(a))
+        == f64_to_bits_with_nan(f64_from_bits_with_nan(b))
 }
 
 pub impl Tally for IntermediateStats as IntermediateStatsIsTally {
@@ -165,7 +182,8 @@ pub impl Joinable for IntermediateStats as IntermediateStatsIsJoinable {
     ghost joined = { merged };
 
     fn merge_fruits(&mut self, other: &IntermediateStats) {
-        let y = other.sum() - (f64_from_bits_with_nan(self.delta) + f64_from_bits_with_nan(other.delta));
+        let y = other.sum()
+            - (f64_from_bits_with_nan(self.delta) + f64_from_bits_with_nan(other.delta));
         self.advance(
             other.count,
             y,
@@ -184,4 +202,49 @@ pub fn stats_stand() -> u8
     ensures { λ _. ⌜ Worked ⌝ }
 {
     0
+}
+
+/// A NaN changes neither the least nor the greatest, of −0.0 and +0.0 the earlier stays, and a sum that is not finite has
+/// compensation 0.
+pub fn stats_laws_stand() -> u8
+    ensures { λ _. ⌜ Stats-laws ⌝ }
+{
+    0
+}
+
+/// What an addition rounds off is carried in the compensation, in a merging too.
+pub fn compensation_stands() -> u8
+    ensures { λ _. ⌜ Carries ⌝ }
+{
+    0
+}
+
+#[cfg(test)]
+mod tests {
+    use super::*;
+    use crate::exact::feed_apart;
+    use crate::extremes::Extremes;
+    use crate::extremes::ExtremesIsExact;
+    use std::test::*;
+
+    #[test]
+    fn compensates() -> Result<(), Fail> {
+        let mut stats = IntermediateStats::empty();
+        stats.feed(ColumnType::U64, 1 << 53);
+        stats.feed(ColumnType::Bool, 1);
+        let mut other = IntermediateStats::empty();
+        other.feed(ColumnType::I64, (1 << 63) + 1);
+        stats.merge_fruits(&other);
+        let end = stats.finalize();
+        check(end.sum == 9_007_199_254_740_994.0)?;
+        check_eq(end.min, Some(1.0))?;
+        check_eq(stats.count(), 3)
+    }
+
+    #[test]
+    fn fed_apart() -> Result<(), Fail> {
+        let tally: Extremes = feed_apart(ColumnType::U64, &[7, 3], &[9]);
+        check_eq(tally.least(), Some(3))?;
+        check_eq(tally.greatest(), Some(9))
+    }
 }
