@@ -17,7 +17,7 @@ use Rattle.records.specs.declared.fault.Refusal.{Refusal}
 use Rattle.records.specs.declared.fault.Refusal.the-variants.{NoRange, TooManyRanges, BadRange, OverlappingRanges}
 use Rattle.numbers.specs.Columns.{value-of}
 use Rattle.buckets.specs.Picks.{any-below, first-below}
-use Rattle.buckets.specs.Tilings.{put-start}
+use Rattle.buckets.specs.Tilings.{put-start, Shape, Tiles}
 use Rattle.buckets.specs.declared.range.RangeAggregationRange.{RangeAggregationRange}
 
 -- the column's value at an end of a range; an end that is no number is told apart before
@@ -96,3 +96,7 @@ pub record Overlap-at (t : ColumnType) (rs : List RangeAggregationRange) (j : �
   pub there : j < length rs
   pub overlaps : (i : ℕ) × ((i < length rs) × ((earlier t rs i j ≡ true) × (from-at t rs j < to-at t rs i)))
   pub first : (k : ℕ) → k < length rs → late t rs k ≡ true → earlier t rs k j ≡ false
+
+-- the starts of accepted ranges' tiling are what the words say of it
+abbrev pub Tiling-of-accepted : Type 0
+Tiling-of-accepted = (level : ℕ) (t : ColumnType) (rs : List RangeAggregationRange) → range-fault level t rs ≡ None → Shape (tiling-of t rs) × Tiles (length rs) (from-at t rs) (to-at t rs) (tiling-of t rs)
