@@ -158,30 +158,41 @@ mod tests {
     use super::*;
     use std::test::*;
 
-    fn refused(interval: f64, min_doc_count: u64, extended_max: f64, field_type: ColumnType) -> u8 {
+    // the refusal's number for hard bounds from 0 to `hard_max` and extended ones from 0 to `extended_max`.
+    fn refused(
+        interval: f64,
+        min_doc_count: u64,
+        hard_max: f64,
+        extended_max: f64,
+        field_type: ColumnType,
+    ) -> u8 {
         let req = HistogramAggregation {
             interval,
             offset: None,
             min_doc_count,
-            hard_bounds: Some(HistogramBounds { min: 0.0, max: 9.0 }),
+            hard_bounds: Some(HistogramBounds {
+                min: 0.0,
+                max: hard_max,
+            }),
             extended_bounds: Some(HistogramBounds {
                 min: 0.0,
                 max: extended_max,
             }),
         };
-        match req.validate(field_type) {
+        match validate_histogram(&req, field_type, 1) {
             Ok(()) => 0,
-            Err(refusal) => refusal.number(),
+            Err(fault) => fault.refusal.number(),
         }
     }
 
     #[test]
     fn refusals() -> Result<(), Fail> {
-        check_eq(refused(1.0, 0, 9.0, ColumnType::F64), 0)?;
-        check_eq(refused(0.0, 1, 10.0, ColumnType::F64), 5)?;
-        check_eq(refused(1.0, 1, 10.0, ColumnType::F64), 6)?;
-        check_eq(refused(1.0, 0, 10.0, ColumnType::F64), 7)?;
-        check_eq(refused(1e303, 0, 9.0, ColumnType::F64), 0)?;
-        check_eq(refused(1e303, 0, 9.0, ColumnType::DateTime), 5)
+        check_eq(refused(1.0, 0, 9.0, 9.0, ColumnType::F64), 0)?;
+        check_eq(refused(0.0, 1, 9.0, 10.0, ColumnType::F64), 5)?;
+        check_eq(refused(1.0, 1, 9.0, 10.0, ColumnType::F64), 6)?;
+        check_eq(refused(1.0, 0, 9.0, 10.0, ColumnType::F64), 7)?;
+        check_eq(refused(1e303, 1, 9.0, 10.0, ColumnType::F64), 6)?;
+        check_eq(refused(1e303, 1, 9.0, 10.0, ColumnType::DateTime), 5)?;
+        check_eq(refused(1.0, 0, 1e303, 2e303, ColumnType::DateTime), 7)
     }
 }
