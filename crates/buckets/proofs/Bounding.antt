@@ -2,14 +2,14 @@
 use mathlib.Core.Path.{_≡_, refl, sym, ap, subst, _∙_}
 use mathlib.Core.List.{List}
 use mathlib.Core.Logic.{_⊎_, _≢_, inl, inr}
-use Prim.Native.Nat.{ℕ, zero, suc, _+_, _-_, _^_, _<_, _≤_}
+use Prim.Native.Nat.{ℕ, _+_, _<_, _≤_}
 use native.Mathlib.Omega.{arith}
 use lib.Dec.{eqb}
 use lib.ListN.{length, getD}
 use Rattle.std.proofs.shelf.Tests.{cases-lt, cases-eq, cases-bool, eqb-true, eqb-false}
 use Rattle.buckets.specs.Picks.{any-below}
 use Rattle.buckets.specs.Tilings.{top, tile-end, Starts-at, With-start, Shape, Tile-is, Hole, Tiles}
-use Rattle.buckets.proofs.Determined.{end-is, end-top, one-place}
+use Rattle.buckets.proofs.Determined.{end-is, end-top}
 use Rattle.buckets.proofs.Picking.{some-any, none-any}
 use Rattle.buckets.proofs.Rows.{rises-far}
 

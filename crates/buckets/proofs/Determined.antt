@@ -1,14 +1,14 @@
 -- A tiling's starts are exactly 0 and the ends of the ranges; two rising lists with the same members are the same.
-use mathlib.Core.Path.{_≡_, refl, sym, ap, subst, _∙_}
-use mathlib.Core.List.{List, [], _∷_}
-use mathlib.Core.Logic.{_⊎_, inl, inr}
-use Prim.Native.Nat.{ℕ, zero, suc, _+_, _-_, _^_, _<_, _≤_}
+use mathlib.Core.Path.{_≡_, sym, ap, subst, _∙_}
+use mathlib.Core.List.{List}
+use mathlib.Core.Logic.{inl, inr}
+use Prim.Native.Nat.{ℕ, zero, suc, _+_, _<_, _≤_}
 use native.Mathlib.Numerals.{add-one}
 use native.Mathlib.Omega.{arith}
 use lib.ListN.{length, getD}
 use Rattle.std.proofs.shelf.Lists.{getD-past, getD-default, ext-getD}
 use Rattle.std.proofs.shelf.Tests.{cases-lt, cases-eq}
-use Rattle.buckets.specs.Tilings.{top, tile-end, Starts-at, Shape, Tile-is, Hole, Tiles, Tiling-determined}
+use Rattle.buckets.specs.Tilings.{top, tile-end, Starts-at, Shape, Hole, Tiles, Tiling-determined}
 use Rattle.buckets.proofs.Rows.{rises-far}
 
 -- a tile ends at a later start, or at the top

@@ -1,20 +1,19 @@
 -- What accepted and refused ranges are, from the definition of their refusal.
-use mathlib.Core.Path.{_≡_, refl, sym, ap, subst, _∙_}
-use mathlib.Core.Bool.{Bool, true, false, cond, _||_, _&&_}
+use mathlib.Core.Path.{_≡_, refl}
+use mathlib.Core.Bool.{Bool, true, false, _||_, _&&_}
 use mathlib.Core.List.{List}
-use mathlib.Core.Logic.{_⊎_, _≢_, inl, inr}
+use mathlib.Core.Logic.{_≢_, inl, inr}
 use Prim.Native.Nat.{ℕ, _<_, _≤_}
 use native.Mathlib.Omega.{arith}
 use lib.Dec.{ltb, leb, eqb}
 use lib.ListN.{length, getD}
-use Rattle.std.proofs.shelf.Tests.{cases-lt, cases-eq, cases-bool, and-parts, or-parts, lt-ltb, le-ltb, ne-eqb, ltb-true, leb-false, and-from, both-ways}
+use Rattle.std.proofs.shelf.Tests.{cases-lt, cases-bool, and-parts, or-parts, lt-ltb, le-ltb, ne-eqb, ltb-true, leb-false, and-from, both-ways}
 use Rattle.std.proofs.shelf.Ways.{tells}
 use Rattle.std.specs.Options.{orOther, whenTrue, mapped}
 use Rattle.std.specs.declared.option.Option.{Option}
 use Rattle.std.specs.declared.option.Option.the-variants.{Some, None}
 use Rattle.records.specs.declared.column_type.ColumnType.{ColumnType}
 use Rattle.records.specs.declared.fault.Refusal.the-variants.{NoRange, TooManyRanges, BadRange, OverlappingRanges}
-use Rattle.buckets.specs.Picks.{first-below}
 use Rattle.buckets.specs.Ranges.{end-of, start-of, from-at, to-at, no-number, bad, open-range, earlier, late, first-bad, first-late, fault, range-fault, Accepted, Overlap-at}
 use Rattle.buckets.specs.declared.range.RangeAggregationRange.{RangeAggregationRange}
 use Rattle.buckets.proofs.Picking.{none-first, none-any, some-any, some-first}

@@ -12,19 +12,19 @@ use Rattle.buckets.proofs.cases.worked_cases_stand.Needs as need
 pub returns : need.returns
 unfolding add sub mul div ofInt ofBits isNan finite value-of floor-i64
 returns c = record {
-    within = refl;
-    at-end = refl;
-    negative = refl;
-    at-start = refl;
-    offset = refl;
-    offset-key = refl;
-    tenths = refl;
-    shape = tiling-tiles 0 U64 two-ranges refl .0;
-    tiles = tiling-tiles 0 U64 two-ranges refl .1;
-    starts = refl;
-    at-hole = refl;
-    last = refl;
-    rounded-up = refl;
-    adjoining = λ level. refl;
-    overlapping = λ level. refl;
-  }
+  within = refl;
+  at-end = refl;
+  negative = refl;
+  at-start = refl;
+  offset = refl;
+  offset-key = refl;
+  tenths = refl;
+  shape = tiling-tiles 0 U64 two-ranges refl .0;
+  tiles = tiling-tiles 0 U64 two-ranges refl .1;
+  starts = refl;
+  at-hole = refl;
+  last = refl;
+  rounded-up = refl;
+  adjoining = λ level. refl;
+  overlapping = λ level. refl;
+}
