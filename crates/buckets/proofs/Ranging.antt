@@ -1,20 +1,19 @@
 -- What accepted and refused ranges are, from the definition of their refusal.
-use mathlib.Core.Path.{_≡_, refl, sym, ap, subst, _∙_}
-use mathlib.Core.Bool.{Bool, true, false, cond, _||_, _&&_}
+use mathlib.Core.Path.{_≡_, refl}
+use mathlib.Core.Bool.{Bool, true, false, _||_, _&&_}
 use mathlib.Core.List.{List}
-use mathlib.Core.Logic.{_⊎_, _≢_, inl, inr}
+use mathlib.Core.Logic.{_≢_, inl, inr}
 use Prim.Native.Nat.{ℕ, _<_, _≤_}
 use native.Mathlib.Omega.{arith}
 use lib.Dec.{ltb, leb, eqb}
 use lib.ListN.{length, getD}
-use Rattle.std.proofs.shelf.Tests.{cases-lt, cases-eq, cases-bool, and-parts, or-parts, lt-ltb, le-ltb, ne-eqb, ltb-true, leb-false, and-from, both-ways}
+use Rattle.std.proofs.shelf.Tests.{cases-lt, cases-bool, and-parts, or-parts, lt-ltb, le-ltb, ne-eqb, ltb-true, leb-false, and-from, both-ways}
 use Rattle.std.proofs.shelf.Ways.{tells}
 use Rattle.std.specs.Options.{orOther, whenTrue, mapped}
 use Rattle.std.specs.declared.option.Option.{Option}
 use Rattle.std.specs.declared.option.Option.the-variants.{Some, None}
 use Rattle.records.specs.declared.column_type.ColumnType.{ColumnType}
 use Rattle.records.specs.declared.fault.Refusal.the-variants.{NoRange, TooManyRanges, BadRange, OverlappingRanges}
-use Rattle.buckets.specs.Picks.{first-below}
 use Rattle.buckets.specs.Ranges.{end-of, start-of, from-at, to-at, no-number, bad, open-range, earlier, late, first-bad, first-late, fault, range-fault, Accepted, Overlap-at}
 use Rattle.buckets.specs.declared.range.RangeAggregationRange.{RangeAggregationRange}
 use Rattle.buckets.proofs.Picking.{none-first, none-any, some-any, some-first}
@@ -98,5 +97,5 @@ module _ (t : ColumnType) (rs : List RangeAggregationRange) where
   pub only-overlap : (level : ℕ) → length rs ≢ 0 → length rs ≤ 16 → first-bad t rs ≡ None → range-fault level t rs ≡ mapped (fault OverlappingRanges level) (first-late t rs)
   only-overlap level some few e =
       (λ i. orOther (whenTrue (ne-eqb (length rs) 0 some i) (fault NoRange level 0))
-        (orOther (whenTrue (le-ltb 16 (length rs) few i) (fault TooManyRanges level 0))
-        (orOther (mapped (fault BadRange level) (e i)) (mapped (fault OverlappingRanges level) (first-late t rs)))))
+      (orOther (whenTrue (le-ltb 16 (length rs) few i) (fault TooManyRanges level 0))
+      (orOther (mapped (fault BadRange level) (e i)) (mapped (fault OverlappingRanges level) (first-late t rs)))))

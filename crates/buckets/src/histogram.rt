@@ -2,9 +2,11 @@
 ghost use mathlib.Core.Path.{_≡_};
 ghost use Rattle.std.specs.Options.{mapped};
 ghost use Rattle.std.specs.Results.{errPart};
-ghost use Rattle.buckets.specs.Grids.{within, outside, in-unit, in-unit-bounds, bad-bounds, bad-offset, bad-grid, grid-refusal};
+ghost use Rattle.buckets.specs.Grids.{within, outside, in-unit, in-unit-bounds, bad-bounds, bad-offset, bad-grid, grid-refusal, histogram-fault};
+ghost use Rattle.records.specs.Faults.{Answers};
 use records::column_type::ColumnType;
 use records::column_type::in_column_unit;
+use records::fault::Fault;
 use records::fault::Refusal;
 
 /// A closed range of numbers, either to limit the slots (hard bounds) or to extend them (extended bounds).
@@ -133,35 +135,64 @@ impl HistogramAggregation {
     }
 }
 
+/// Refuses a request as `validate` does, for the level that asks.
+pub fn validate_histogram(
+    req: &HistogramAggregation,
+    field_type: ColumnType,
+    level: u32,
+) -> Result<(), Fault>
+    ensures { λ r. ⌜ Answers r (histogram-fault level «field_type» (now (req .entry))) ⌝ }
+{
+    match req.validate(field_type) {
+        Ok(()) => Ok(()),
+        Err(refusal) => Err(Fault {
+            refusal,
+            level,
+            place: 0,
+        }),
+    }
+}
+
 #[cfg(test)]
 mod tests {
     use super::*;
     use std::test::*;
 
-    fn refused(interval: f64, min_doc_count: u64, extended_max: f64, field_type: ColumnType) -> u8 {
+    // the refusal's number for hard bounds from 0 to `hard_max` and extended ones from 0 to `extended_max`.
+    fn refused(
+        interval: f64,
+        min_doc_count: u64,
+        hard_max: f64,
+        extended_max: f64,
+        field_type: ColumnType,
+    ) -> u8 {
         let req = HistogramAggregation {
             interval,
             offset: None,
             min_doc_count,
-            hard_bounds: Some(HistogramBounds { min: 0.0, max: 9.0 }),
+            hard_bounds: Some(HistogramBounds {
+                min: 0.0,
+                max: hard_max,
+            }),
             extended_bounds: Some(HistogramBounds {
                 min: 0.0,
                 max: extended_max,
             }),
         };
-        match req.validate(field_type) {
+        match validate_histogram(&req, field_type, 1) {
             Ok(()) => 0,
-            Err(refusal) => refusal.number(),
+            Err(fault) => fault.refusal.number(),
         }
     }
 
     #[test]
     fn refusals() -> Result<(), Fail> {
-        check_eq(refused(1.0, 0, 9.0, ColumnType::F64), 0)?;
-        check_eq(refused(0.0, 1, 10.0, ColumnType::F64), 5)?;
-        check_eq(refused(1.0, 1, 10.0, ColumnType::F64), 6)?;
-        check_eq(refused(1.0, 0, 10.0, ColumnType::F64), 7)?;
-        check_eq(refused(1e303, 0, 9.0, ColumnType::F64), 0)?;
-        check_eq(refused(1e303, 0, 9.0, ColumnType::DateTime), 5)
+        check_eq(refused(1.0, 0, 9.0, 9.0, ColumnType::F64), 0)?;
+        check_eq(refused(0.0, 1, 9.0, 10.0, ColumnType::F64), 5)?;
+        check_eq(refused(1.0, 1, 9.0, 10.0, ColumnType::F64), 6)?;
+        check_eq(refused(1.0, 0, 9.0, 10.0, ColumnType::F64), 7)?;
+        check_eq(refused(1e303, 1, 9.0, 10.0, ColumnType::F64), 6)?;
+        check_eq(refused(1e303, 1, 9.0, 10.0, ColumnType::DateTime), 5)?;
+        check_eq(refused(1.0, 0, 1e303, 2e303, ColumnType::DateTime), 7)
     }
 }

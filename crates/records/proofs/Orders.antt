@@ -39,9 +39,9 @@ cmp-extends (x ∷ xs) s r =
 pub path-order : Path-order
 unfolding path-cmp
 path-order = record {
-    flips = lex-flip signed;
-    chains = lex-trans signed;
-    same = cmp-same;
-    itself = λ p. own (lex signed p p) (lex-flip signed p p);
-    extends = cmp-extends;
-  }
+  flips = lex-flip signed;
+  chains = lex-trans signed;
+  same = cmp-same;
+  itself = λ p. own (lex signed p p) (lex-flip signed p p);
+  extends = cmp-extends;
+}

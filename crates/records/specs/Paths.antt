@@ -1,6 +1,6 @@
 -- What a path is, and the order of paths: step by step, and a path comes before what extends it.
 use mathlib.Core.Path.{_≡_}
-use mathlib.Core.List.{List, [], _∷_, _++_}
+use mathlib.Core.List.{List, _∷_, _++_}
 use lib.IntN.{ℤ}
 use lib.ListN.{take}
 use Rattle.std.specs.declared.cmp.Ordering.{Ordering}

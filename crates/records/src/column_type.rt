@@ -1,6 +1,5 @@
 //! What a column's u64 values stand for.
 ghost use mathlib.Core.Path.{_≡_};
-ghost use Rattle.std.specs.declared.option.Option.the-variants.{Some, None};
 ghost use Rattle.records.specs.ColumnTypes.{rule, scaled};
 
 /// The type of a column.

@@ -1,13 +1,11 @@
 //! Making, reading and ordering paths.
 ghost use mathlib.Core.Path.{_≡_};
 ghost use mathlib.Core.List.{[], _∷_, _++_};
-ghost use Prim.Native.Nat.{_≤_, _<_};
 ghost use lib.ListN.{length};
 ghost use Rattle.std.specs.Options.{Cases as BySome};
-ghost use Rattle.std.specs.Orderings.{isLt, Decides};
 ghost use Rattle.records.specs.Paths.{steps-of, path-cmp, Path-order};
-use std::cmp::Ordering;
 use crate::path::Path;
+use std::cmp::Ordering;
 
 impl Path {
     /// The path of one step.

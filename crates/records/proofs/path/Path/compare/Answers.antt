@@ -1,5 +1,5 @@
 -- `cmp` on slices answers by std's lexicographic order.
-use mathlib.Core.Path.{_≡_, _∙_}
+use mathlib.Core.Path.{_∙_}
 use Rattle.std.specs.Keys.{signed}
 use Rattle.std.specs.Lexical.{lex, lex-says}
 use Rattle.records.specs.Paths.{path-cmp}

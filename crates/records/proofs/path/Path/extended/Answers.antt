@@ -1,5 +1,5 @@
 -- The first `len` steps with the next one behind them.
-use mathlib.Core.Path.{_≡_, ap, _∙_}
+use mathlib.Core.Path.{ap, _∙_}
 use mathlib.Core.List.{_++_, [], _∷_}
 use native.Mathlib.Omega.{arith}
 use mir.Syntax.{w64}
