@@ -11,4 +11,4 @@ returns-in-Break-check-slots g c =
     let s = c .args .self .now in
     let past = c .in-Break-check-slots .ensures tt in
     rw (q .1, q .2) (λ seg. refused-past (s .column) (s .«field_type») (length (c .args .slots .now)) (c .args .buckets) (s .number) seg _ _ (λ D. D) (c .args .-limits .now) (c .in-Break-check-slots .field-0 .0)
-      (omega (arith, past .1)) (λ b i. i) (λ n b D h. h .0) (past .0))
+    (omega (arith, past .1)) (λ b i. i) (λ n b D h. h .0) (past .0))
