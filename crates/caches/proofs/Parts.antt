@@ -16,6 +16,7 @@ use Rattle.stack.specs.Levels.{Plan}
 use Rattle.stack.specs.Overruns.{Deliveries, added, all-added, More}
 use Rattle.stack.specs.Calls.{Went, Overran, Inside}
 use Rattle.stack.proofs.Chaining.{went-none, went-then, went-overran}
+use Rattle.stack.proofs.Delivering.{more-refl}
 
 -- the parts with keys below n
 abbrev pub upto : (ℕ → ℕ) → Deliveries → ℕ → Deliveries
@@ -92,3 +93,13 @@ went-last key W n A B p q a b k m none w = record {
     same-plan = w .same-plan;
     charged = w .charged;
   }
+
+-- ---- flushing: everything that waits is handed over, and then the level below hands on what it has
+module _ (W : Deliveries) (A B : (n buckets : ℕ) → Deliveries → Type 0) (p q : Plan) (a b c : AggregationLimits) (k m o : ℕ)
+    (over : Went A B (Inside W) (λ D. all-added D W) p q a b k m) where
+  pub went-on : (C : (n buckets : ℕ) → Deliveries → Type 0) (r : Plan) → Went B C (λ n. Unit {0}) (λ D. D) q r b c m o → Went A C (Inside W) (λ D. all-added D W) p r a c k o
+  went-on C r next = went-then A B C (Inside W) (λ n. Unit {0}) (Inside W) (λ D. all-added D W) (λ D. D) (λ D. all-added D W) p q r a b c k m o (λ x i. i) (λ x i. tt) (λ D. refl) over next
+
+  pub overran-on : (slots was : ℕ) (g : Seg) (f : Fault) → slots ≡ was → Overran 1 q slots g B (λ n. Unit {0}) (λ D. D) b c m o f → Overran 1 p was g A (Inside W) (λ D. all-added D W) a c k o f
+  overran-on slots was g f e next = subst (λ (s : ℕ). Overran 1 p s g A (Inside W) (λ D. all-added D W) a c k o f) e
+    (went-overran 1 slots g A B (Inside W) (λ n. Unit {0}) (Inside W) (λ D. all-added D W) (λ D. D) (λ D. all-added D W) p q a b c k m o f (λ x i. i) (λ x i. tt) (λ D. more-refl (all-added D W)) over next)

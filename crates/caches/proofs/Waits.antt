@@ -56,6 +56,12 @@ waits-low (k ∷ ks) (d ∷ ds) b low h =
     cond-false (eqb k b) (d ∷ docs-for b ks ds) (docs-for b ks ds) (ne-eqb k b (λ e. omega (arith, low 0 (omega arith))))
     ∙ waits-low ks ds b (λ j l. low (suc j) (omega arith)) h
 
+pub low-take : (bs : List ℕ) (len : ℕ) → Low bs len → Low (take len bs) (length (take len bs))
+low-take bs len low k h =
+    let l : k < len = omega (arith, h, length-take len bs) in
+    let e : getD (take len bs) k 0 ≡ getD bs k 0 = getD-take len bs k 0 l in
+    omega (arith, e, low k l)
+
 -- these pairs are the list that waits
 pub waits-record : (bs ds : List ℕ) (len : ℕ) → length bs ≡ 2048 → length ds ≡ 2048 → len ≤ 2048 → Low bs len → Waits (waits-in bs ds len) len
 waits-record bs ds len lb ld few low = record {
@@ -65,5 +71,5 @@ waits-record bs ds len lb ld few low = record {
     count = omega (arith, length-take len ds);
     few = few;
     parts = λ b. refl;
-    inside = λ b. waits-low (take len bs) (take len ds) b (λ k h. let l : k < len = omega (arith, h, length-take len bs) in let e : getD (take len bs) k 0 ≡ getD bs k 0 = getD-take len bs k 0 l in omega (arith, e, low k l));
+    inside = λ b. waits-low (take len bs) (take len ds) b (low-take bs len low);
   }
