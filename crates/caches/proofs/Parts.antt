@@ -29,23 +29,23 @@ only key W n k = cond (eqb (key k) n) (W k) []
 pub upto-none : (key : ℕ → ℕ) (W D : Deliveries) → all-added D (upto key W 0) ≡ D
 upto-none key W D = fun-ext (λ k. ap (λ (xs : List ℕ). D k ++ xs) (cond-false (ltb (key k) 0) (W k) [] (le-ltb (key k) 0 (omega arith))) ∙ append-nil (D k))
 
+pub upto-step : (key : ℕ → ℕ) (W : Deliveries) (n k : ℕ) → upto key W n k ++ only key W n k ≡ upto key W (n + 1) k
+upto-step key W n k = elim (cases-order (key k) n) [
+  | inl e ↦
+      (λ i. cond-false (ltb (key k) n) (W k) [] (le-ltb (key k) n (omega arith)) i ++ cond-true (eqb (key k) n) (W k) [] (eq-eqb (key k) n e) i)
+      ∙ sym (cond-true (ltb (key k) (n + 1)) (W k) [] (lt-ltb (key k) (n + 1) (omega arith)))
+  | inr o ↦ elim o [
+    | inl l ↦
+        (λ i. cond-true (ltb (key k) n) (W k) [] (lt-ltb (key k) n l) i ++ cond-false (eqb (key k) n) (W k) [] (ne-eqb (key k) n (λ e. omega arith)) i)
+        ∙ append-nil (W k) ∙ sym (cond-true (ltb (key k) (n + 1)) (W k) [] (lt-ltb (key k) (n + 1) (omega arith)))
+    | inr l ↦
+        (λ i. cond-false (ltb (key k) n) (W k) [] (le-ltb (key k) n (omega arith)) i ++ cond-false (eqb (key k) n) (W k) [] (ne-eqb (key k) n (λ e. omega arith)) i)
+        ∙ sym (cond-false (ltb (key k) (n + 1)) (W k) [] (le-ltb (key k) (n + 1) (omega arith)))
+  ]
+]
+
 pub upto-more : (key : ℕ → ℕ) (W : Deliveries) (n : ℕ) (D : Deliveries) → all-added (all-added D (upto key W n)) (only key W n) ≡ all-added D (upto key W (n + 1))
-upto-more key W n D = fun-ext (λ k. append-assoc (D k) (upto key W n k) (only key W n k) ∙ ap (λ (xs : List ℕ). D k ++ xs) (at k))
-  where
-    at : (k : ℕ) → upto key W n k ++ only key W n k ≡ upto key W (n + 1) k
-    at k = elim (cases-order (key k) n) [
-      | inl e ↦
-          (λ i. cond-false (ltb (key k) n) (W k) [] (le-ltb (key k) n (omega arith)) i ++ cond-true (eqb (key k) n) (W k) [] (eq-eqb (key k) n e) i)
-          ∙ sym (cond-true (ltb (key k) (n + 1)) (W k) [] (lt-ltb (key k) (n + 1) (omega arith)))
-      | inr o ↦ elim o [
-        | inl l ↦
-            (λ i. cond-true (ltb (key k) n) (W k) [] (lt-ltb (key k) n l) i ++ cond-false (eqb (key k) n) (W k) [] (ne-eqb (key k) n (λ e. omega arith)) i)
-            ∙ append-nil (W k) ∙ sym (cond-true (ltb (key k) (n + 1)) (W k) [] (lt-ltb (key k) (n + 1) (omega arith)))
-        | inr l ↦
-            (λ i. cond-false (ltb (key k) n) (W k) [] (le-ltb (key k) n (omega arith)) i ++ cond-false (eqb (key k) n) (W k) [] (ne-eqb (key k) n (λ e. omega arith)) i)
-            ∙ sym (cond-false (ltb (key k) (n + 1)) (W k) [] (le-ltb (key k) (n + 1) (omega arith)))
-      ]
-    ]
+upto-more key W n D = fun-ext (λ k. append-assoc (D k) (upto key W n k) (only key W n k) ∙ ap (λ (xs : List ℕ). D k ++ xs) (upto-step key W n k))
 
 pub upto-all : (key : ℕ → ℕ) (W : Deliveries) (n : ℕ) → ((k : ℕ) → n ≤ key k → W k ≡ []) → (D : Deliveries) → all-added D (upto key W n) ≡ all-added D W
 upto-all key W n none D = fun-ext (λ k. ap (λ (xs : List ℕ). D k ++ xs) (elim (cases-lt (key k) n) [
@@ -62,6 +62,9 @@ upto-less key W n D = record {
       | false ↦ sym (ap (λ (xs : List ℕ). xs ++ W k) (append-nil (D k)))
     ];
   }
+
+pub only-nil : (key : ℕ → ℕ) (W : Deliveries) (n k : ℕ) → W k ≡ [] → only key W n k ≡ []
+only-nil key W n k e = elim (eqb (key k) n) as (λ t. cond t (W k) [] ≡ []) [ true ↦ e | false ↦ refl ]
 
 -- the documents of one bucket, if its number is the key
 pub only-one : (W : Deliveries) (b : ℕ) (D : Deliveries) → added D b (W b) ≡ all-added D (only (λ k. k) W b)

@@ -48,13 +48,17 @@ low-push bs len b h l low k lt = elim (cases-eq k len) [
     | inr n ↦ let s : getD (set bs len b) k 0 ≡ getD bs k 0 = getD-set-other bs len k b 0 n in let under : k < len = omega arith in omega (arith, s, low k under)
   ]
 
+-- a bucket that is not named
+pub docs-absent : (bs ds : List ℕ) (b : ℕ) → ((k : ℕ) → k < length bs → getD bs k 0 ≡ b → ⊥) → docs-for b bs ds ≡ []
+docs-absent [] ds b no-one = refl
+docs-absent (k ∷ ks) [] b no-one = refl
+docs-absent (k ∷ ks) (d ∷ ds) b no-one =
+    cond-false (eqb k b) (d ∷ docs-for b ks ds) (docs-for b ks ds) (ne-eqb k b (no-one 0 (omega arith)))
+    ∙ docs-absent ks ds b (λ j l. no-one (suc j) (omega arith))
+
 -- no pair of a bucket from 512 on
 pub waits-low : (bs ds : List ℕ) (b : ℕ) → ((k : ℕ) → k < length bs → getD bs k 0 < 512) → 512 ≤ b → docs-for b bs ds ≡ []
-waits-low [] ds b low h = refl
-waits-low (k ∷ ks) [] b low h = refl
-waits-low (k ∷ ks) (d ∷ ds) b low h =
-    cond-false (eqb k b) (d ∷ docs-for b ks ds) (docs-for b ks ds) (ne-eqb k b (λ e. omega (arith, low 0 (omega arith))))
-    ∙ waits-low ks ds b (λ j l. low (suc j) (omega arith)) h
+waits-low bs ds b low h = docs-absent bs ds b (λ k l e. omega (arith, low k l))
 
 pub low-take : (bs : List ℕ) (len : ℕ) → Low bs len → Low (take len bs) (length (take len bs))
 low-take bs len low k h =
