@@ -22,9 +22,9 @@ use Rattle.caches.proofs.Waits.{docs-append, docs-push, docs-absent, waits-low
 -- no partition has more pairs than there are in all
 pub each-few : (lens : List ℕ) (len : ℕ) → length lens ≡ 16 → sum-below (λ g. getD lens g 0) 16 ≡ len → (g : ℕ) → getD lens g 0 ≤ len
 each-few lens len size total g = elim (cases-lt g 16) [
-    | inl l ↦ omega (arith, sum-part (λ k. getD lens k 0) g 16 l, total)
-    | inr l ↦ omega (arith, getD-past lens g 0 (omega (arith, size, l)))
-  ]
+  | inl l ↦ omega (arith, sum-part (λ k. getD lens k 0) g 16 l, total)
+  | inr l ↦ omega (arith, getD-past lens g 0 (omega (arith, size, l)))
+]
 
 -- partitions of two tables are as long
 part-paired : (bs ds lens : List ℕ) (g : ℕ) → length bs ≡ length ds → length (partition bs lens g) ≡ length (partition ds lens g)
@@ -34,9 +34,9 @@ part-paired bs ds lens g e = omega (arith, e, length-take (getD lens g 0) (drop 
 
 lens-none : (g : ℕ) → _≡_ {A = ℕ} (getD (replicate 16 0) g 0) 0
 lens-none g = elim (cases-lt g 16) [
-    | inl l ↦ getD-replicate 16 g 0 0 l
-    | inr l ↦ getD-past (replicate 16 0) g 0 (omega (arith, length-replicate {A = ℕ} 16 0, l))
-  ]
+  | inl l ↦ getD-replicate 16 g 0 0 l
+  | inr l ↦ getD-past (replicate 16 0) g 0 (omega (arith, length-replicate {A = ℕ} 16 0, l))
+]
 
 pub none-total : sum-below (λ g. getD (replicate 16 0) g 0) 16 ≡ 0
 none-total = sum-same (λ g. getD (replicate 16 0) g 0) (λ g. 0) 16 (λ g h. lens-none g) ∙ sum-none 16
@@ -51,9 +51,9 @@ Each P ys = (j : ℕ) → j < length ys → P (getD ys j 0)
 
 each-push : (P : ℕ → Type 0) (ys : List ℕ) (x : ℕ) → Each P ys → P x → Each P (ys ++ (x ∷ []))
 each-push P ys x f here j h = elim (cases-lt j (length ys)) [
-    | inl l ↦ subst P (sym (getD-append-left ys (x ∷ []) 0 j l)) (f j l)
-    | inr l ↦ subst P (sym (getD-push ys x 0 j (omega (arith, l, h, length-push ys x)))) here
-  ]
+  | inl l ↦ subst P (sym (getD-append-left ys (x ∷ []) 0 j l)) (f j l)
+  | inr l ↦ subst P (sym (getD-push ys x 0 j (omega (arith, l, h, length-push ys x)))) here
+]
 
 module _ (lens : List ℕ) (g : ℕ) (inside : g < 16) (size : length lens ≡ 16) (few : (k : ℕ) → getD lens k 0 ≤ 2048) (room : getD lens g 0 < 2048) where
   pub lens-total : (len : ℕ) → sum-below (λ k. getD lens k 0) 16 ≡ len → sum-below (λ k. getD (set lens g (getD lens g 0 + 1)) k 0) 16 ≡ len + 1
@@ -149,14 +149,14 @@ module _ (lens : List ℕ) (few : (k : ℕ) → getD lens k 0 ≤ 2048) where
 -- the partitions one behind the other are the list that waits
 pub group-record : (bs ds lens : List ℕ) (len : ℕ) → length bs ≡ 32768 → length ds ≡ 32768 → length lens ≡ 16 → len ≤ 2048 → sum-below (λ g. getD lens g 0) 16 ≡ len → All-low bs lens → All-home bs lens → Waits (group-waits bs ds lens) len
 group-record bs ds lens len lb ld size few total low right = record {
-    buckets = all-parts bs lens 16;
-    docs = all-parts ds lens 16;
-    paired = length-all lens each bs lb 16 (omega arith) ∙ sym (length-all lens each ds ld 16 (omega arith));
-    count = length-all lens each ds ld 16 (omega arith) ∙ total;
-    few = few;
-    parts = λ b. sym (docs-all lens each bs ds lb ld right b 16 (omega arith) ∙ cond-true (ltb (b % 16) 16) (group-waits bs ds lens b) [] (lt-ltb (b % 16) 16 (mod-below b 16 (omega arith))));
-    inside = λ b. waits-low (partition bs lens (b % 16)) (partition ds lens (b % 16)) b (low (b % 16));
-  }
+  buckets = all-parts bs lens 16;
+  docs = all-parts ds lens 16;
+  paired = length-all lens each bs lb 16 (omega arith) ∙ sym (length-all lens each ds ld 16 (omega arith));
+  count = length-all lens each ds ld 16 (omega arith) ∙ total;
+  few = few;
+  parts = λ b. sym (docs-all lens each bs ds lb ld right b 16 (omega arith) ∙ cond-true (ltb (b % 16) 16) (group-waits bs ds lens b) [] (lt-ltb (b % 16) 16 (mod-below b 16 (omega arith))));
+  inside = λ b. waits-low (partition bs lens (b % 16)) (partition ds lens (b % 16)) b (low (b % 16));
+}
   where
     each : (k : ℕ) → getD lens k 0 ≤ 2048
     each k = omega (arith, each-few lens len size total k, few)

@@ -27,14 +27,14 @@ docs-append k (b ∷ bs) cs (d ∷ ds) es e = go (eqb b k) (docs-append k bs cs 
 -- one pair behind
 pub docs-push : (k b d : ℕ) (bs ds : List ℕ) → length bs ≡ length ds → docs-for k (bs ++ (b ∷ [])) (ds ++ (d ∷ [])) ≡ cond (eqb k b) (docs-for k bs ds ++ (d ∷ [])) (docs-for k bs ds)
 docs-push k b d bs ds e = docs-append k bs (b ∷ []) ds (d ∷ []) e ∙ elim (cases-eq k b) [
-    | inl h ↦
-        ap (λ (xs : List ℕ). docs-for k bs ds ++ xs) (cond-true (eqb b k) (d ∷ []) [] (eq-eqb b k (sym h)))
-        ∙ sym (cond-true (eqb k b) (docs-for k bs ds ++ (d ∷ [])) (docs-for k bs ds) (eq-eqb k b h))
-    | inr n ↦
-        ap (λ (xs : List ℕ). docs-for k bs ds ++ xs) (cond-false (eqb b k) (d ∷ []) [] (ne-eqb b k (λ h. n (sym h))))
-        ∙ append-nil (docs-for k bs ds)
-        ∙ sym (cond-false (eqb k b) (docs-for k bs ds ++ (d ∷ [])) (docs-for k bs ds) (ne-eqb k b n))
-  ]
+  | inl h ↦
+      ap (λ (xs : List ℕ). docs-for k bs ds ++ xs) (cond-true (eqb b k) (d ∷ []) [] (eq-eqb b k (sym h)))
+      ∙ sym (cond-true (eqb k b) (docs-for k bs ds ++ (d ∷ [])) (docs-for k bs ds) (eq-eqb k b h))
+  | inr n ↦
+      ap (λ (xs : List ℕ). docs-for k bs ds ++ xs) (cond-false (eqb b k) (d ∷ []) [] (ne-eqb b k (λ h. n (sym h))))
+      ∙ append-nil (docs-for k bs ds)
+      ∙ sym (cond-false (eqb k b) (docs-for k bs ds ++ (d ∷ [])) (docs-for k bs ds) (ne-eqb k b n))
+]
 
 -- a pair written behind the first ones
 pub waits-push : (bs ds : List ℕ) (len b d : ℕ) → len < length bs → len < length ds → waits-in (set bs len b) (set ds len d) (len + 1) ≡ added (waits-in bs ds len) b (d ∷ [])
@@ -44,9 +44,9 @@ waits-push bs ds len b d hb hd = fun-ext (λ k.
 
 pub low-push : (bs : List ℕ) (len b : ℕ) → len < length bs → b < 512 → Low bs len → Low (set bs len b) (len + 1)
 low-push bs len b h l low k lt = elim (cases-eq k len) [
-    | inl e ↦ let s : getD (set bs len b) k 0 ≡ b = ap (λ (j : ℕ). getD (set bs len b) j 0) e ∙ getD-set-same bs len b 0 h in omega (arith, s, l)
-    | inr n ↦ let s : getD (set bs len b) k 0 ≡ getD bs k 0 = getD-set-other bs len k b 0 n in let under : k < len = omega arith in omega (arith, s, low k under)
-  ]
+  | inl e ↦ let s : getD (set bs len b) k 0 ≡ b = ap (λ (j : ℕ). getD (set bs len b) j 0) e ∙ getD-set-same bs len b 0 h in omega (arith, s, l)
+  | inr n ↦ let s : getD (set bs len b) k 0 ≡ getD bs k 0 = getD-set-other bs len k b 0 n in let under : k < len = omega arith in omega (arith, s, low k under)
+]
 
 -- a bucket that is not named
 pub docs-absent : (bs ds : List ℕ) (b : ℕ) → ((k : ℕ) → k < length bs → getD bs k 0 ≡ b → ⊥) → docs-for b bs ds ≡ []
@@ -69,11 +69,11 @@ low-take bs len low k h =
 -- these pairs are the list that waits
 pub waits-record : (bs ds : List ℕ) (len : ℕ) → length bs ≡ 2048 → length ds ≡ 2048 → len ≤ 2048 → Low bs len → Waits (waits-in bs ds len) len
 waits-record bs ds len lb ld few low = record {
-    buckets = take len bs;
-    docs = take len ds;
-    paired = omega (arith, length-take len bs, length-take len ds);
-    count = omega (arith, length-take len ds);
-    few = few;
-    parts = λ b. refl;
-    inside = λ b. waits-low (take len bs) (take len ds) b (low-take bs len low);
-  }
+  buckets = take len bs;
+  docs = take len ds;
+  paired = omega (arith, length-take len bs, length-take len ds);
+  count = omega (arith, length-take len ds);
+  few = few;
+  parts = λ b. refl;
+  inside = λ b. waits-low (take len bs) (take len ds) b (low-take bs len low);
+}

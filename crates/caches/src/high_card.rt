@@ -21,6 +21,7 @@ use stack::level::SegmentAggregationCollector;
 
 /// A cache that keeps 16 partitions by bucket number modulo 16 and hands over one after another, each run of equal bucket
 /// numbers in one go.
+#[derive(Drop)]
 pub struct HighCardSubAggCache<L> {
     partitions: Partitions,
     below: L,
@@ -38,8 +39,9 @@ impl<L: SegmentAggregationCollector> HighCardSubAggCache<L> {
     }
 }
 
-pub impl<L: SegmentAggregationCollector> SubAggCache for HighCardSubAggCache<L> as HighCardIsSubAggCache {
+pub impl<L: SegmentAggregationCollector> SubAggCache for HighCardSubAggCache<L> as HighCardIsCache {
     type Request = L::Request;
+
     type Fruit = L::Fruit;
 
     ghost plan = { λ c. L·SegmentAggregationCollector .plan (c .below) };

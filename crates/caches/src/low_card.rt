@@ -20,6 +20,7 @@ use stack::cache::SubAggCache;
 use stack::level::SegmentAggregationCollector;
 
 /// A cache that hands over by rising bucket number, all documents of a bucket in one go.
+#[derive(Drop)]
 pub struct LowCardSubAggCache<L> {
     pairs: Pairs,
     below: L,
@@ -37,8 +38,9 @@ impl<L: SegmentAggregationCollector> LowCardSubAggCache<L> {
     }
 }
 
-pub impl<L: SegmentAggregationCollector> SubAggCache for LowCardSubAggCache<L> as LowCardIsSubAggCache {
+pub impl<L: SegmentAggregationCollector> SubAggCache for LowCardSubAggCache<L> as LowCardIsCache {
     type Request = L::Request;
+
     type Fruit = L::Fruit;
 
     ghost plan = { λ c. L·SegmentAggregationCollector .plan (c .below) };

@@ -12,7 +12,7 @@ ghost use Rattle.caches.specs.Grouping.{group-waits, All-low, All-home};
 /// At most 2,048 pairs of a bucket number below 512 and a document, in 16 partitions by bucket number modulo 16, and in
 /// each in the order in which they came. Any partition has room for all of them.
 #[derive(Clone, Copy)]
-pub struct Partitions {
+pub(crate) struct Partitions {
     pub(crate) bucket_ids: [u32; 32768],
     pub(crate) docs: [u32; 32768],
     pub(crate) lens: [usize; 16],
@@ -28,7 +28,7 @@ pub struct Partitions {
 
 impl Partitions {
     /// No pairs.
-    pub fn new() -> Partitions
+    pub(crate) fn new() -> Partitions
         ensures { λ r. ⌜ r .len ≡ 0 ⌝ }
     {
         Partitions {
@@ -40,7 +40,7 @@ impl Partitions {
     }
 
     /// Whether no pair more finds room.
-    pub fn is_full(&self) -> bool
+    pub(crate) fn is_full(&self) -> bool
         ensures { λ r. ⌜ r ≡ eqb (now (self .entry) .len) 2048 ⌝ }
     {
         self.len == 2048
@@ -48,7 +48,7 @@ impl Partitions {
 
     /// Puts a pair behind the others of its partition; false, and unaltered, where there is no room or the bucket is not
     /// below 512.
-    pub fn push(&mut self, bucket: u32, doc: u32) -> bool
+    pub(crate) fn push(&mut self, bucket: u32, doc: u32) -> bool
         ensures answer { λ r. ⌜ (bucket < 512 → r ≡ not (eqb (now (self .entry) .len) 2048)) × (512 ≤ bucket → r ≡ false) ⌝ }
         ensures after { λ r. ⌜ Pushed r (group-waits (now (self .entry) .«bucket_ids») (now (self .entry) .docs) (now (self .entry) .lens)) (now (self .entry) .len) (group-waits (now (self .exit) .«bucket_ids») (now (self .exit) .docs) (now (self .exit) .lens)) (now (self .exit) .len) bucket doc ⌝ }
     {
@@ -69,7 +69,7 @@ impl Partitions {
     }
 
     /// Leaves no pair.
-    pub fn clear(&mut self)
+    pub(crate) fn clear(&mut self)
         ensures { λ _. ⌜ now (self .exit) .len ≡ 0 ⌝ }
     {
         self.lens = [0; 16];

@@ -11,5 +11,5 @@ Inv-loop-partition g l =
     let seg = g .S·Segment .means (l .seg) in
     let waiting = group-waits (l .partitions .«bucket_ids») (l .partitions .docs) (l .partitions .lens) in
     Went (level .holds (l .entry .below) (l .entry .slots) seg) (level .holds (l .below) (l .slots) seg)
-      (Inside waiting) (λ D. all-added D (upto home waiting (l .partition)))
-      (level .plan (l .entry .below)) (level .plan (l .below)) (l .entry .limits) (l .limits) (level .made (l .entry .below)) (level .made (l .below))
+    (Inside waiting) (λ D. all-added D (upto home waiting (l .partition)))
+    (level .plan (l .entry .below)) (level .plan (l .below)) (l .entry .limits) (l .limits) (level .made (l .entry .below)) (level .made (l .below))

@@ -30,7 +30,7 @@ returns-in-Break-collect-multiple g c =
     let start = c .args .partition * 2048 in
     let W : ℕ → Deliveries = λ n b. docs-for b (take n (drop start (p .«bucket_ids»))) (take n (drop start (p .docs))) in
     rw (q .1, q .2) (subst (λ (n : ℕ). Overran 1 (level .plan (c .args .below .now)) (length (c .args .slots .now)) seg (level .holds (c .args .below .now) (c .args .slots .now) seg) (Inside (W n)) (λ D. all-added D (W n)) (c .args .limits .now) (c .collect-multiple .last .limits) (level .made (c .args .below .now)) (level .made (c .collect-multiple .last .self)) (c .in-Break-collect-multiple .field-0 .0))
-      (long start (getD (p .lens) (c .args .partition) 0)) (c .in-Break-collect-multiple .ensures tt))
+    (long start (getD (p .lens) (c .args .partition) 0)) (c .in-Break-collect-multiple .ensures tt))
 
 pub returns : need.returns
 returns g c =
@@ -41,4 +41,4 @@ returns g c =
     let last = c .collect-multiple .last in
     let W : ℕ → Deliveries = λ n b. docs-for b (take n (drop start (p .«bucket_ids»))) (take n (drop start (p .docs))) in
     subst (λ (n : ℕ). Went (level .holds (c .args .below .now) (c .args .slots .now) seg) (level .holds (last .self) (last .slots) seg) (Inside (W n)) (λ D. all-added D (W n)) (level .plan (c .args .below .now)) (level .plan (last .self)) (c .args .limits .now) (last .limits) (level .made (c .args .below .now)) (level .made (last .self)))
-      (long start (getD (p .lens) (c .args .partition) 0)) (c .in-Continue-collect-multiple .ensures tt)
+    (long start (getD (p .lens) (c .args .partition) 0)) (c .in-Continue-collect-multiple .ensures tt)

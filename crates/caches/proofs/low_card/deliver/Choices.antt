@@ -12,6 +12,6 @@ Inv-loop-b g l =
     let level = g .L·SegmentAggregationCollector in
     let seg = g .S·Segment .means (l .seg) in
     Went (level .holds (l .entry .below) (l .entry .slots) seg) (level .holds (l .below) (l .slots) seg)
-      (Inside (part-of (l .ends) (l .docs))) (λ D. all-added D (upto (λ k. k) (part-of (l .ends) (l .docs)) (l .b)))
-      (level .plan (l .entry .below)) (level .plan (l .below)) (l .entry .limits) (l .limits) (level .made (l .entry .below)) (level .made (l .below))
+    (Inside (part-of (l .ends) (l .docs))) (λ D. all-added D (upto (λ k. k) (part-of (l .ends) (l .docs)) (l .b)))
+    (level .plan (l .entry .below)) (level .plan (l .below)) (l .entry .limits) (l .limits) (level .made (l .entry .below)) (level .made (l .below))
     × (l .start ≡ getD (0 ∷ l .ends) (l .b) 0)

@@ -41,15 +41,28 @@ ghost-self c =
     let b = c .args .bucket in
     let r = room p b (c .if-self-eq2048 .left) in
     let g = b % 16 in
-    let at = g * 2048 + getD (p .lens) g 0 in
-    (omega (arith, p .few, c .if-self-eq2048 .left),
-     (lens-total (p .lens) g (r .1) (p .sixteen) (each p) (r .0) (p .len) (p .total),
-     (all-push (p .lens) g (r .1) (p .sixteen) (each p) (r .0) (λ k v. v < 512) (p .«bucket_ids») b (p .whole) (c .if-bucket-ge512 .left) (p .low),
-     (all-push (p .lens) g (r .1) (p .sixteen) (each p) (r .0) (λ k v. v % 16 ≡ k) (p .«bucket_ids») b (p .whole) refl (p .home),
-     (length-set (p .«bucket_ids») at b ∙ p .whole,
-     (length-set (p .docs) at (c .args .doc) ∙ p .beside,
-     (length-set (p .lens) g (getD (p .lens) g 0 + 1) ∙ p .sixteen,
-     tt)))))))
+    let at = g * 2048 + getD (p .lens) g 0 in (
+      omega (arith, p .few, c .if-self-eq2048 .left),
+      (
+        lens-total (p .lens) g (r .1) (p .sixteen) (each p) (r .0) (p .len) (p .total),
+        (
+          all-push (p .lens) g (r .1) (p .sixteen) (each p) (r .0) (λ k v. v < 512) (p .«bucket_ids») b (p .whole) (c .if-bucket-ge512 .left) (p .low),
+          (
+            all-push (p .lens) g (r .1) (p .sixteen) (each p) (r .0) (λ k v. v % 16 ≡ k) (p .«bucket_ids») b (p .whole) refl (p .home),
+            (
+              length-set (p .«bucket_ids») at b ∙ p .whole,
+              (
+                length-set (p .docs) at (c .args .doc) ∙ p .beside,
+                (
+                  length-set (p .lens) g (getD (p .lens) g 0 + 1) ∙ p .sixteen,
+                  tt,
+                ),
+              ),
+            ),
+          ),
+        ),
+      ),
+    )
 
 pub returns : need.returns
 returns c =

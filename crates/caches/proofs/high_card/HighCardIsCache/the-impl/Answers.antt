@@ -1,5 +1,5 @@
 use Rattle.caches.proofs.Groups.{group-record}
-use Rattle.caches.proofs.high_card.HighCardIsSubAggCache.the-impl.Needs as need
+use Rattle.caches.proofs.high_card.HighCardIsCache.the-impl.Needs as need
 
 pub wider-law : need.wider-law
 wider-law g c slots seg n buckets more D h a = g .L·SegmentAggregationCollector·met .wider (c .below) slots seg n buckets more D h a

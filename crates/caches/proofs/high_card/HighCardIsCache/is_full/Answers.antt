@@ -1,5 +1,5 @@
 use Rattle.caches.proofs.Groups.{group-record}
-use Rattle.caches.proofs.high_card.HighCardIsSubAggCache.is_full.Needs as need
+use Rattle.caches.proofs.high_card.HighCardIsCache.is_full.Needs as need
 
 pub returns : need.returns
 returns g c =

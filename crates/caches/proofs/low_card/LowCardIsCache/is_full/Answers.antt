@@ -1,5 +1,5 @@
 use Rattle.caches.proofs.Waits.{waits-record}
-use Rattle.caches.proofs.low_card.LowCardIsSubAggCache.is_full.Needs as need
+use Rattle.caches.proofs.low_card.LowCardIsCache.is_full.Needs as need
 
 pub returns : need.returns
 returns g c =
