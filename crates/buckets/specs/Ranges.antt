@@ -2,7 +2,7 @@
 -- to its end, excluded.
 use mathlib.Core.Path.{_≡_}
 use mathlib.Core.Bool.{Bool, true, false, cond, _||_, _&&_}
-use mathlib.Core.List.{List}
+use mathlib.Core.List.{List, [], _∷_}
 use mathlib.Core.Logic.{_⊎_, _≢_}
 use Prim.Native.Nat.{ℕ, _-_, _^_, _<_, _≤_}
 use lib.Dec.{leb, ltb, eqb}
@@ -17,6 +17,7 @@ use Rattle.records.specs.declared.fault.Refusal.{Refusal}
 use Rattle.records.specs.declared.fault.Refusal.the-variants.{NoRange, TooManyRanges, BadRange, OverlappingRanges}
 use Rattle.numbers.specs.Columns.{value-of}
 use Rattle.buckets.specs.Picks.{any-below, first-below}
+use Rattle.buckets.specs.Tilings.{put-start}
 use Rattle.buckets.specs.declared.range.RangeAggregationRange.{RangeAggregationRange}
 
 -- the column's value at an end of a range; an end that is no number is told apart before
@@ -74,6 +75,11 @@ range-fault level t rs =
     (orOther (whenTrue (ltb 16 (length rs)) (fault TooManyRanges level 0))
     (orOther (mapped (fault BadRange level) (first-bad t rs))
     (mapped (fault OverlappingRanges level) (first-late t rs))))
+
+-- the starts of the ranges' tiling: 0 and every start and end below the top, rising, each once
+abbrev pub tiling-of : ColumnType → List RangeAggregationRange → List ℕ
+tiling-of t [] = 0 ∷ []
+tiling-of t (r ∷ rs) = put-start (start-of t r) (put-start (end-of t r) (tiling-of t rs))
 
 -- ---- in words
 
