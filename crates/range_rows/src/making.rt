@@ -37,6 +37,7 @@ impl RangeRows {
                     place: 0,
                 });
             }
+            let _used = limits.used;
             limits.charge(self.number, 1)?;
             self.counts[self.rows] = 0;
             self.rows += 1;
