@@ -134,15 +134,19 @@ already c limits wanted h = record {
   charged = record { same-limit = refl; grown = omega arith; paid = refl; within = λ l. absurd (omega arith) };
 }
 
-pub row-found : (was is : RangeRows) (before after : AggregationLimits) (b v tile : ℕ) → Made was is before after (b * tiles-of was + tiles-of was) → tile ≡ tile-of (starts-of (is .tiling)) v → tile < tiles-of is → Row-for (shown was) (shown is) before after b v (b * tiles-of was + tile)
-row-found was is before after b v tile m e h = record {
-  grew = grew was is (m .added);
-  charged = m .charged;
-  there = omega (arith, m .rows, same-tiles was is (m .added));
-  bucket = ap (λ t. (b * t + tile) / tiles-of is) (sym (same-tiles was is (m .added))) ∙ div-mul-add b (tiles-of is) tile h;
-  step = ap (λ t. Some (pos (tile-of (starts-of t) v))) (sym (m .added .same-tiling)) ∙ ap (λ k. Some (pos k)) (sym e ∙ sym (mod-mul-add b (tiles-of is) tile h) ∙ ap (λ t. (b * t + tile) % tiles-of is) (same-tiles was is (m .added)));
-  new = λ k i l. inr (let n = new-rows was is (b + 1) k (m .added) (omega (arith, m .rows, add-mul b 1 (tiles-of was))) in (omega (arith, n .0), n .1));
-}
+pub row-found : (was is : RangeRows) (before after : AggregationLimits) (b v r : ℕ) → Made was is before after (b * tiles-of was + tiles-of was) → r ≡ b * tiles-of is + tile-of (starts-of (is .tiling)) v → r < b * tiles-of is + tiles-of is → Row-for (shown was) (shown is) before after b v r
+row-found was is before after b v r m e h =
+    let same = same-tiles was is (m .added) in
+    let tile = tile-of (starts-of (is .tiling)) v in
+    let l : tile < tiles-of is = omega arith in
+    record {
+      grew = grew was is (m .added);
+      charged = m .charged;
+      there = omega (arith, m .rows, ap (λ t. b * t + t) same);
+      bucket = ap (λ k. k / tiles-of is) e ∙ div-mul-add b (tiles-of is) tile l;
+      step = ap (λ t. Some (pos (tile-of (starts-of t) v))) (sym (m .added .same-tiling)) ∙ ap (λ k. Some (pos k)) (sym (ap (λ k. k % tiles-of is) e ∙ mod-mul-add b (tiles-of is) tile l));
+      new = λ k i j. inr (let n = new-rows was is (b + 1) k (m .added) (omega (arith, m .rows, add-mul b 1 (tiles-of was))) in (omega (arith, n .0), n .1));
+    }
 
 -- ---- writing out
 

@@ -2,12 +2,13 @@
 use mathlib.Core.Path.{_≡_}
 use mathlib.Core.List.{List}
 use mathlib.Core.Logic.{_⊎_}
-use Prim.Native.Nat.{ℕ, _+_, _-_, _*_, _/_, _%_, _<_, _≤_, min, max}
+use Prim.Native.Nat.{ℕ, _+_, _-_, _*_, _/_, _%_, _^_, _<_, _≤_, min, max}
 use lib.IntN.{pos}
-use lib.ListN.{length, getD}
+use lib.ListN.{length, getD, set}
 use Rattle.std.specs.Iters.{counting}
 use Rattle.records.specs.declared.fault.Fault.{Fault}
 use Rattle.records.specs.declared.fault.Refusal.the-variants.{TooManyRows, AllowanceExceeded}
+use Rattle.limits.specs.Limits.{Refused}
 use Rattle.limits.specs.declared.agg_limits.AggregationLimits.{AggregationLimits}
 use Rattle.buckets.specs.Tilings.{starts-of}
 use Rattle.stack.specs.Levels.{range-level}
@@ -33,6 +34,19 @@ shown c = record {
 -- the rows below a bucket follow one another: one for each tile, as far as they are made
 abbrev pub rows-below : RangeRows → ℕ → List ℕ
 rows-below c b = counting (b * tiles-of c) (min (tiles-of c) (c .rows - b * tiles-of c))
+
+-- one row more, with count 0; nothing else changed
+pub record One-more (was is : RangeRows) : Type 0 where
+  pub same-tiling : is .tiling ≡ was .tiling
+  pub same-column : is .column ≡ was .column
+  pub same-number : is .number ≡ was .number
+  pub rows : is .rows ≡ was .rows + 1
+  pub counts : is .counts ≡ set (was .counts) (was .rows) 0
+
+-- why no row more is made: there are 512, or its charge is refused
+pub data No-more (t : RangeRows) (before after : AggregationLimits) (f : Fault) : Type 0 where
+  full : f ≡ fault TooManyRows (t .number) → t .rows ≡ 512 → after ≡ before → No-more t before after f
+  uncharged : f ≡ fault AllowanceExceeded (t .number) → before .used < 2 ^ 64 → Refused before 1 after → No-more t before after f
 
 -- rows were added, whose count is 0, and nothing else changed
 pub record Added (was is : RangeRows) : Type 0 where

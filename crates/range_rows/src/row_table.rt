@@ -72,7 +72,7 @@ pub impl RowTable for RangeRows as RangeIsTable {
     }
 
     fn prepare(&mut self, limits: &mut AggregationLimits, buckets: u32) -> Result<(), Fault> {
-        let wanted = buckets as usize * self.tiling.num_tiles();
+        let wanted = self.first_row(buckets);
         self.make_rows(limits, wanted)?;
         Ok(())
     }
@@ -83,12 +83,11 @@ pub impl RowTable for RangeRows as RangeIsTable {
         bucket: u32,
         val: u64,
     ) -> Result<Option<usize>, Fault> {
-        let tiles = self.tiling.num_tiles();
-        let first = bucket as usize * tiles;
-        if self.rows < first + tiles {
-            self.make_rows(limits, first + tiles)?;
+        let wanted = self.first_row(bucket) + self.tiling.num_tiles();
+        if self.rows < wanted {
+            self.make_rows(limits, wanted)?;
         }
-        Ok(Some(first + self.tiling.get_bucket_pos(val)))
+        Ok(Some(self.row_of(bucket, val)))
     }
 
     fn count_up(&mut self, row: usize) -> Result<(), Fault> {
@@ -110,11 +109,10 @@ pub impl RowTable for RangeRows as RangeIsTable {
     }
 
     fn row_at(&self, bucket: u32, index: usize) -> Option<usize> {
-        let tiles = self.tiling.num_tiles();
-        if index >= tiles {
+        if index >= self.tiling.num_tiles() {
             return None;
         }
-        let row = bucket as usize * tiles + index;
+        let row = self.first_row(bucket) + index;
         if row < self.rows { Some(row) } else { None }
     }
 
@@ -124,5 +122,70 @@ pub impl RowTable for RangeRows as RangeIsTable {
 
     fn count_of(&self, row: usize) -> u64 {
         if row < self.rows { self.counts[row] } else { 0 }
+    }
+}
+
+#[cfg(test)]
+mod tests {
+    use super::*;
+    use segments::dense::DenseIsSegment;
+    use segments::dense::DenseSegment;
+    use std::test::*;
+
+    // The table of level 3 with the ranges 10–20 and 30–, so with the tiles 0–10, 10–20, 20–30 and 30–.
+    fn four_tiles() -> RangeRows {
+        let types = [ColumnType::U64];
+        let seg = DenseSegment { num_docs: 0, column_types: &types, values: &[] };
+        let request = RangeRequest { column: 0, start: 1, count: 9 };
+        let ranges = [
+            RangeAggregationRange { from: None, to: None },
+            RangeAggregationRange { from: Some(10.0), to: Some(20.0) },
+            RangeAggregationRange { from: Some(30.0), to: None },
+        ];
+        let mut table = RangeRows::new();
+        table.reset(&request, &ranges, &seg, 3);
+        table
+    }
+
+    fn refusal(r: Result<(), Fault>) -> (u8, u32) {
+        match r {
+            Ok(()) => (0, 0),
+            Err(f) => (f.refusal.number(), f.level),
+        }
+    }
+
+    #[test]
+    fn rows_of_values() -> Result<(), Fail> {
+        let mut limits = AggregationLimits { limit: 100, used: 0 };
+        let mut table = four_tiles();
+        check_eq(table.row_for(&mut limits, 1, 20).ok(), Some(Some(6)))?;
+        check_eq(limits.used, 8)?;
+        check(table.count_up(6).is_ok())?;
+        check_eq(table.row_at(1, 2), Some(6))?;
+        check_eq(table.row_at(2, 0), None)?;
+        check_eq(table.step_of(6), 2)?;
+        check_eq(table.count_of(6), 1)
+    }
+
+    #[test]
+    fn too_many_rows() -> Result<(), Fail> {
+        let mut limits = AggregationLimits { limit: 1000, used: 0 };
+        let mut table = four_tiles();
+        check_eq(refusal(table.prepare(&mut limits, 128)), (0, 0))?;
+        check_eq(table.num_rows(), 512)?;
+        check_eq(refusal(table.prepare(&mut limits, 129)), (11, 3))?;
+        check_eq(table.num_rows(), 512)?;
+        check_eq(limits.used, 512)
+    }
+
+    #[test]
+    fn an_allowance_one_short() -> Result<(), Fail> {
+        let mut limits = AggregationLimits { limit: 7, used: 0 };
+        let mut table = four_tiles();
+        check_eq(refusal(table.prepare(&mut limits, 2)), (12, 3))?;
+        check_eq(table.num_rows(), 7)?;
+        check_eq(limits.used, 8)?;
+        check_eq(table.row_at(1, 2), Some(6))?;
+        check_eq(table.row_at(1, 3), None)
     }
 }
