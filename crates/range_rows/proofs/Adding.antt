@@ -1,18 +1,17 @@
 -- Rows made one at a time.
-use mathlib.Core.Path.{_≡_, refl, sym, ap, _∙_, subst}
+use mathlib.Core.Path.{_≡_, sym, ap, _∙_, subst}
 use mathlib.Core.Logic.{inl, inr}
-use Prim.Native.Nat.{ℕ, _+_, _-_, _^_, _<_, _≤_}
+use Prim.Native.Nat.{ℕ, _+_, _-_, _^_, _<_}
 use native.Mathlib.Omega.{arith}
-use lib.ListN.{length, getD, set}
+use lib.ListN.{getD, set}
 use Rattle.std.proofs.shelf.Lists.{getD-set-same, getD-set-other}
 use Rattle.std.proofs.shelf.Tests.{cases-eq, cases-lt}
 use Rattle.records.specs.declared.fault.Fault.{Fault}
-use Rattle.records.specs.declared.fault.Refusal.{Refusal}
 use Rattle.records.specs.declared.fault.Refusal.the-variants.{TooManyRows, AllowanceExceeded}
 use Rattle.limits.specs.Limits as limits
 use Rattle.limits.specs.declared.agg_limits.AggregationLimits.{AggregationLimits}
 use Rattle.stack.specs.Overruns.{fault}
-use Rattle.stack.specs.Calls.{Charged, Stopped, Paid, for-rows, and-one, at-most}
+use Rattle.stack.specs.Calls.{Charged, Stopped, for-rows, and-one, at-most}
 use Rattle.range_rows.specs.declared.table.RangeRows.{RangeRows}
 use Rattle.range_rows.specs.Shown.{One-more, No-more, full, uncharged, Added, Short}
 

@@ -1,29 +1,24 @@
 -- The rows of a range level as numbers: row k is that of bucket k / tiles and tile k % tiles.
-use mathlib.Core.Path.{_≡_, refl, sym, ap, ap₂, _∙_, subst}
-use mathlib.Core.List.{List}
+use mathlib.Core.Path.{_≡_, refl, sym, ap, ap₂, _∙_}
 use mathlib.Core.Logic.{_⊎_, inl, inr}
-use Prim.Native.Nat.{ℕ, suc, _+_, _-_, _*_, _/_, _%_, _^_, _<_, _≤_, min, max}
+use Prim.Native.Nat.{ℕ, suc, _+_, _-_, _*_, _/_, _%_, _<_, _≤_, min}
 use native.Mathlib.Omega.{arith}
 use native.Mathlib.Nat.{mul-le-mul-right, suc-mul, add-mul}
 use lib.Dec.{lt→ltb}
 use lib.IntN.{ℤ, pos, negsuc}
-use lib.ListN.{length, getD, take}
-use lib.Signed.{_<ℤ_, ltZ-yes}
+use lib.ListN.{length, getD}
+use lib.Signed.{ltZ-yes}
 use Rattle.std.specs.Finite.{nth}
-use Rattle.std.specs.Iters.{counting}
-use Rattle.std.specs.declared.option.Option.{Option}
 use Rattle.std.specs.declared.option.Option.the-variants.{Some, None}
 use Rattle.std.proofs.shelf.Bits.{div-add-mod', div-mul-add, mod-mul-add, div-below, mod-below}
 use Rattle.std.proofs.shelf.Counted.{length-counting, getD-counting}
 use Rattle.std.proofs.shelf.Lists.{length-take}
 use Rattle.std.proofs.shelf.Maps.{nth-getD, nth-past}
 use Rattle.records.specs.declared.fault.Fault.{Fault}
-use Rattle.records.specs.declared.fault.Refusal.the-variants.{AllowanceExceeded}
 use Rattle.limits.specs.declared.agg_limits.AggregationLimits.{AggregationLimits}
 use Rattle.buckets.specs.Tilings.{starts-of, tile-of}
-use Rattle.stack.specs.Levels.{Lvl, range-level, step-of}
-use Rattle.stack.specs.Calls.{Charged, Stopped}
-use Rattle.rows.specs.Tables.{Table, Always, Is, Has, Sound, Listed, Grew, Lacks, Prepared, Unprepared, Row-for, No-row-for, unprepared}
+use Rattle.stack.specs.Levels.{range-level}
+use Rattle.rows.specs.Tables.{Always, Has, Sound, Listed, Grew, Prepared, Unprepared, Row-for}
 use Rattle.range_rows.specs.declared.table.RangeRows.{RangeRows}
 use Rattle.range_rows.specs.Shown.{tiles-of, shown, rows-below, Added, Made, Short}
 

@@ -1,7 +1,7 @@
 -- Requests that are accepted have a column with a type.
 use mathlib.Core.Path.{_≡_}
 use mathlib.Core.List.{List}
-use Prim.Native.Nat.{ℕ, _<_, _^_, _-_, min}
+use Prim.Native.Nat.{ℕ, _<_, _^_, _-_}
 use native.Mathlib.Omega.{arith}
 use Rattle.std.specs.Options.{valueOr}
 use Rattle.std.specs.declared.option.Option.{Option}

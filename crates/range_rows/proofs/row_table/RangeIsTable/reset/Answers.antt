@@ -1,5 +1,5 @@
 -- The tiling made is that of the ranges asked for, where they are accepted.
-use mathlib.Core.Path.{_≡_, refl, sym, ap, _∙_, subst}
+use mathlib.Core.Path.{_≡_, refl, ap, _∙_, subst}
 use Prim.Native.Nat.{ℕ}
 use Rattle.std.specs.Options.{valueOr}
 use Rattle.std.specs.declared.option.Option.the-variants.{None}

@@ -1,6 +1,6 @@
 -- Below a bucket the rows follow one another, one for each tile.
 use mathlib.Core.Logic.{inl, inr}
-use mathlib.Core.Path.{_≡_, ap, _∙_}
+use mathlib.Core.Path.{ap, _∙_}
 use Prim.Native.Nat.{_+_}
 use Rattle.std.specs.declared.option.Option.the-variants.{Some}
 use Rattle.range_rows.proofs.Numbering.{row-there, row-past}

@@ -1,3 +1,4 @@
+-- Each turn adds one row and its charge, or ends.
 use native.Mathlib.Omega.{arith}
 use Rattle.std.proofs.shelf.Results.{err-from-errBy}
 use Rattle.range_rows.proofs.Adding.{one-added, one-charged, fell-short}
@@ -8,7 +9,7 @@ returns-in-Break-make-row c =
     let q = err-from-errBy (c .from-residual .result) (c .from-residual .ensures .1) in
     let i = c .loop-self .inv in
     let r = c .in-Break-make-row .ensures tt in
-    rw (q .1, q .2) (fell-short (c .args .self .now) (c .loop-self .self) (c .make-row .last .self) (c .args .limits .now) (c .loop-self .limits) (c .make-row .last .limits) (c .args .wanted) (c .in-Break-make-row .field-0 .0) (i .0) (i .1) (c .loop-self-test .taken) (r .0) (r .1))
+    rw (q .1, q .2) (fell-short (c .args .self .now) (c .loop-self .self) (c .make-row .last .self) (c .args .limits .now) (c .loop-self .limits) (c .make-row .last .limits) (c .args .wanted) (c .in-Break-make-row .field-0 .0) (i .0) (i .1) (omega (arith, c .loop-self-test .taken)) (r .0) (r .1))
 
 pub loop-self-again : need.loop-self-again
 loop-self-again c =
