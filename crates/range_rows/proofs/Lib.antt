@@ -1,0 +1,4 @@
+pub mod Adding
+pub mod Numbering
+pub mod Parts
+pub mod Requesting
