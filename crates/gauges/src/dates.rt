@@ -1,5 +1,9 @@
 //! Times as dates of the Gregorian calendar, in UTC.
-ghost use Prim.Native.Nat.{_≤_};
+ghost use mathlib.Core.Path.{_≡_};
+ghost use Prim.Native.Nat.{_<_, _≤_};
+ghost use lib.IntN.{pos, _+ℤ_};
+ghost use Rattle.std.specs.Options.{Cases as BySome};
+ghost use Rattle.gauges.specs.Calendar.{days-to, ms-to, Out-of-years};
 use std::fmt;
 
 /// A moment of the years 1 to 9999, to the millisecond.
@@ -34,6 +38,7 @@ const BEFORE: i64 = 62_162_035_200_000;
 /// Years are counted from March, so that a leap day is a year's last: 400 years have 146097 days, and the months of five
 /// from March, August or January on have 153.
 pub fn date_after(days: u64) -> Date
+    ensures date { λ r. ⌜ days-to r ≡ days ⌝ }
     ensures month { λ r. ⌜ 1 ≤ r .month ⌝ ∗ ⌜ r .month ≤ 12 ⌝ }
     ensures day { λ r. ⌜ 1 ≤ r .day ⌝ ∗ ⌜ r .day ≤ 31 ⌝ }
 {
@@ -45,14 +50,21 @@ pub fn date_after(days: u64) -> Date
     let month = fifths / 153;
     let day = fifths % 153 / 5 + 1;
     if month > 12 {
-        Date { year: year + 1, month: month - 12, day }
+        Date {
+            year: year + 1,
+            month: month - 12,
+            day,
+        }
     } else {
         Date { year, month, day }
     }
 }
 
 /// The moment so many milliseconds after the epoch, 1970-01-01 00:00; none outside the years 1 to 9999.
-pub fn moment_at(ms: i64) -> Option<Moment> {
+pub fn moment_at(ms: i64) -> Option<Moment>
+    ensures value { λ r. ⌜ BySome r (Out-of-years ms) (λ m. pos (ms-to m) ≡ ms +ℤ pos 62162035200000) ⌝ }
+    ensures clock { λ r. ⌜ BySome r (Unit {0}) (λ m. (m .hour < 24) × (m .minute < 60) × (m .second < 60) × (m .ms < 1000)) ⌝ }
+{
     if ms < FIRST || ms > LAST {
         return None;
     }
@@ -75,7 +87,13 @@ pub impl fmt::Display for Date as DateDisplay {
 
 pub impl fmt::Display for Moment as MomentDisplay {
     fn fmt<W: fmt::Write>(&self, f: &mut fmt::Formatter<W>) -> fmt::Result {
-        let Moment { date, hour, minute, second, ms } = *self;
+        let Moment {
+            date,
+            hour,
+            minute,
+            second,
+            ms,
+        } = *self;
         write!(f, "{date} {hour:02}:{minute:02}:{second:02}.{ms:03}")
     }
 }
@@ -87,22 +105,33 @@ mod tests {
 
     fn day_of(ms: i64) -> (u64, u64, u64) {
         match moment_at(ms) {
-            Some(Moment { date: Date { year, month, day }, .. }) => (year, month, day),
+            Some(
+                Moment {
+                    date: Date { year, month, day },
+                    ..
+                },
+            ) => (year, month, day),
             None => (0, 0, 0),
         }
     }
 
     #[test]
     fn days_of_the_calendar() -> Result<(), Fail> {
-        check_eq(day_of(0), (1970, 1, 1))?;
-        check_eq(day_of(-1), (1969, 12, 31))?;
-        check_eq(day_of(951_782_400_000), (2000, 2, 29))?;
-        check_eq(day_of(951_868_800_000), (2000, 3, 1))?;
-        check_eq(day_of(-2_203_891_200_000), (1900, 3, 1))?;
-        check_eq(day_of(-62_135_596_800_000), (1, 1, 1))?;
-        check_eq(day_of(253_402_300_799_999), (9999, 12, 31))?;
-        check_eq(day_of(253_402_300_800_000), (0, 0, 0))?;
-        check_eq(day_of(-62_135_596_800_001), (0, 0, 0))
+        let days = [
+            (0, (1970, 1, 1)),
+            (-1, (1969, 12, 31)),
+            (951_782_400_000, (2000, 2, 29)),
+            (951_868_800_000, (2000, 3, 1)),
+            (-2_203_891_200_000, (1900, 3, 1)),
+            (-62_135_596_800_000, (1, 1, 1)),
+            (-62_135_596_800_001, (0, 0, 0)),
+            (253_402_300_799_999, (9999, 12, 31)),
+            (253_402_300_800_000, (0, 0, 0)),
+        ];
+        for (ms, day) in days {
+            check_eq(day_of(ms), day)?;
+        }
+        Ok(())
     }
 
     #[test]
