@@ -1,14 +1,13 @@
 -- The grid of a histogram: slots of one length, `interval`, one of which begins at `offset`. Slot p holds the values v with
 -- floor((v - offset) / interval) = p, and begins at p * interval + offset.
 use mathlib.Core.Path.{_≡_}
-use mathlib.Core.Bool.{Bool, true, false, cond, not, _&&_, _||_}
-use Prim.Native.Nat.{ℕ}
+use mathlib.Core.Bool.{Bool, false, cond, not, _&&_, _||_}
 use lib.Dec.{T, ltb}
 use lib.IntN.{ℤ}
 use lib.Signed.{_≤ℤ_}
-use lib.Ieee.{Float, binary64, add, sub, mul, div, ofInt, ofBits, lt, le, isNan}
+use lib.Ieee.{Float, nan, binary64, add, sub, mul, div, ofInt, ofBits, lt, le, isNan}
 use Rattle.std.specs.Floats as Floats
-use Rattle.std.specs.Options.{isSome}
+use Rattle.std.specs.Options.{isSome, mapped, valueOr}
 use Rattle.std.specs.declared.option.Option.{Option}
 use Rattle.std.specs.declared.option.Option.the-variants.{Some, None}
 use Rattle.records.specs.ColumnTypes.{rule, scaled}
@@ -50,33 +49,21 @@ position-of g v = cond (counted (g .«hard_bounds») v) (Some (slot-of (g .inter
 abbrev pub in-unit-bounds : ColumnType → HistogramBounds → HistogramBounds
 in-unit-bounds t b = record { min = scaled (rule t .factor) (b .min); max = scaled (rule t .factor) (b .max) }
 
-abbrev pub in-unit-option : ColumnType → Option HistogramBounds → Option HistogramBounds
-in-unit-option t None = None
-in-unit-option t (Some b) = Some (in-unit-bounds t b)
-
-abbrev pub in-unit-offset : ColumnType → Option Float → Option Float
-in-unit-offset t None = None
-in-unit-offset t (Some x) = Some (scaled (rule t .factor) x)
-
 abbrev pub in-unit : ColumnType → HistogramAggregation → HistogramAggregation
 in-unit t q = record {
   interval = scaled (rule t .factor) (q .interval);
-  offset = in-unit-offset t (q .offset);
+  offset = mapped (scaled (rule t .factor)) (q .offset);
   «min_doc_count» = q .«min_doc_count»;
-  «hard_bounds» = in-unit-option t (q .«hard_bounds»);
-  «extended_bounds» = in-unit-option t (q .«extended_bounds»);
+  «hard_bounds» = mapped (in-unit-bounds t) (q .«hard_bounds»);
+  «extended_bounds» = mapped (in-unit-bounds t) (q .«extended_bounds»);
 }
-
-abbrev pub or-zero : Option Float → Float
-or-zero None = zero
-or-zero (Some x) = x
 
 abbrev pub grid-of : ColumnType → HistogramAggregation → Grid
 grid-of t q =
     let u = in-unit t q in
     record {
       interval = u .interval;
-      offset = or-zero (u .offset);
+      offset = valueOr (u .offset) zero;
       «hard_bounds» = u .«hard_bounds»;
       «extended_bounds» = u .«extended_bounds»;
       «min_doc_count» = u .«min_doc_count»;
@@ -111,7 +98,22 @@ grid-refusal t q =
 
 -- ---- laws
 
--- a larger number is in no lower slot
+-- the numbers of a grid are of use: the interval is finite and above 0, the offset finite, and no bound a NaN
+pub record Sound (g : Grid) : Type 0 where
+  pub interval-finite : T (Floats.finite (g .interval))
+  pub interval-above : T (lt zero (g .interval))
+  pub offset-finite : T (Floats.finite (g .offset))
+  pub hard-numbers : bad-bounds (g .«hard_bounds») ≡ false
+  pub extended-numbers : bad-bounds (g .«extended_bounds») ≡ false
+
+-- the grid of a request that is not refused is sound
+abbrev pub Sound-if-accepted : Type 0
+Sound-if-accepted = (t : ColumnType) (q : HistogramAggregation) → grid-refusal t q ≡ None → Sound (grid-of t q)
+
+-- on a sound grid a larger number is in no lower slot
 abbrev pub Rising : Type 0
-Rising = (v w interval offset : Float) → T (Floats.finite offset) → T (Floats.finite interval) → T (lt zero interval) → T (le v w)
-    → slot-of interval offset v ≤ℤ slot-of interval offset w
+Rising = (g : Grid) (v w : Float) → Sound g → T (le v w) → slot-of (g .interval) (g .offset) v ≤ℤ slot-of (g .interval) (g .offset) w
+
+-- no grid counts a NaN
+abbrev pub Nan-uncounted : Type 0
+Nan-uncounted = (g : Grid) → position-of g nan ≡ None

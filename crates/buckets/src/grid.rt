@@ -1,11 +1,11 @@
 //! The grid of a histogram: which slot a value lies in, and where a slot begins.
 ghost use mathlib.Core.Path.{_≡_};
-ghost use Rattle.buckets.specs.Grids.{slot-of, key-of, grid-of, counted, position-of};
+ghost use Rattle.buckets.specs.Grids.{slot-of, key-of, grid-of, counted, position-of, Rising, Sound-if-accepted, Nan-uncounted};
+use crate::histogram::HistogramAggregation;
+use crate::histogram::HistogramBounds;
 use numbers::whole::floor_i64;
 use records::column_type::ColumnType;
 use std::num::nearest_i64_to_f64;
-use crate::histogram::HistogramAggregation;
-use crate::histogram::HistogramBounds;
 
 /// The slot of a number: floor((val − offset) / interval), each operation rounded once, made an i64 by the nearest one in
 /// range. A NaN gives 0.
@@ -73,5 +73,43 @@ impl Grid {
         ensures { λ r. ⌜ r ≡ key-of (now (self .entry) .interval) (now (self .entry) .offset) «bucket_pos» ⌝ }
     {
         get_bucket_key_from_pos(bucket_pos, self.interval, self.offset)
+    }
+}
+
+/// On a grid with a finite interval above 0 and a finite offset, a larger number is in no lower slot.
+pub fn slots_rise_stands() -> u8
+    ensures { λ _. ⌜ Rising ⌝ }
+{
+    0
+}
+
+/// A request that is not refused has a grid with a finite interval above 0, a finite offset and no NaN for a bound.
+pub fn accepted_grid_stands() -> u8
+    ensures { λ _. ⌜ Sound-if-accepted ⌝ }
+{
+    0
+}
+
+/// No grid counts a NaN.
+pub fn nan_uncounted_stands() -> u8
+    ensures { λ _. ⌜ Nan-uncounted ⌝ }
+{
+    0
+}
+
+#[cfg(test)]
+mod tests {
+    use super::*;
+    use std::test::*;
+
+    #[test]
+    fn slots() -> Result<(), Fail> {
+        check_eq(get_bucket_pos_f64(9.5, 10.0, 0.0), 0)?;
+        check_eq(get_bucket_pos_f64(10.0, 10.0, 0.0), 1)?;
+        check_eq(get_bucket_pos_f64(-1.0, 10.0, 0.0), -1)?;
+        check_eq(get_bucket_pos_f64(-10.0, 10.0, 0.0), -1)?;
+        check_eq(get_bucket_pos_f64(4.0, 10.0, 5.0), -1)?;
+        check_eq(get_bucket_pos_f64(0.3, 0.1, 0.0), 2)?;
+        check_eq(get_bucket_key_from_pos(-1, 10.0, 5.0), -5.0)
     }
 }

@@ -1,7 +1,8 @@
 //! The request of a histogram, and when it is refused.
 ghost use mathlib.Core.Path.{_≡_};
+ghost use Rattle.std.specs.Options.{mapped};
 ghost use Rattle.std.specs.Results.{errPart};
-ghost use Rattle.buckets.specs.Grids.{within, outside, in-unit, in-unit-bounds, in-unit-option, bad-bounds, bad-offset, bad-grid, grid-refusal};
+ghost use Rattle.buckets.specs.Grids.{within, outside, in-unit, in-unit-bounds, bad-bounds, bad-offset, bad-grid, grid-refusal};
 use records::column_type::ColumnType;
 use records::column_type::in_column_unit;
 use records::fault::Refusal;
@@ -47,8 +48,11 @@ pub struct HistogramAggregation {
     pub extended_bounds: Option<HistogramBounds>,
 }
 
-fn bounds_in_unit(bounds: Option<HistogramBounds>, field_type: ColumnType) -> Option<HistogramBounds>
-    ensures { λ r. ⌜ r ≡ in-unit-option «field_type» bounds ⌝ }
+fn bounds_in_unit(
+    bounds: Option<HistogramBounds>,
+    field_type: ColumnType,
+) -> Option<HistogramBounds>
+    ensures { λ r. ⌜ r ≡ mapped (in-unit-bounds «field_type») bounds ⌝ }
 {
     match bounds {
         Some(b) => Some(b.in_unit(field_type)),
@@ -126,5 +130,38 @@ impl HistogramAggregation {
             return Err(Refusal::ExtendedBoundsOutsideHard);
         }
         Ok(())
+    }
+}
+
+#[cfg(test)]
+mod tests {
+    use super::*;
+    use std::test::*;
+
+    fn refused(interval: f64, min_doc_count: u64, extended_max: f64, field_type: ColumnType) -> u8 {
+        let req = HistogramAggregation {
+            interval,
+            offset: None,
+            min_doc_count,
+            hard_bounds: Some(HistogramBounds { min: 0.0, max: 9.0 }),
+            extended_bounds: Some(HistogramBounds {
+                min: 0.0,
+                max: extended_max,
+            }),
+        };
+        match req.validate(field_type) {
+            Ok(()) => 0,
+            Err(refusal) => refusal.number(),
+        }
+    }
+
+    #[test]
+    fn refusals() -> Result<(), Fail> {
+        check_eq(refused(1.0, 0, 9.0, ColumnType::F64), 0)?;
+        check_eq(refused(0.0, 1, 10.0, ColumnType::F64), 5)?;
+        check_eq(refused(1.0, 1, 10.0, ColumnType::F64), 6)?;
+        check_eq(refused(1.0, 0, 10.0, ColumnType::F64), 7)?;
+        check_eq(refused(1e303, 0, 9.0, ColumnType::F64), 0)?;
+        check_eq(refused(1e303, 0, 9.0, ColumnType::DateTime), 5)
     }
 }

@@ -37,15 +37,17 @@ abbrev pub over-allowance : ℕ → Fault
 over-allowance level = record { refusal = AllowanceExceeded; level = level; place = 0 }
 
 -- an accepted charge is added, and the sum is not above the limit
-pub record Charged (g : AggregationLimitsGuard) (n : ℕ) (h : AggregationLimitsGuard) : Type 0 where
-  pub used : used-of h ≡ used-of g + n
-  pub within : used-of g + n ≤ limit-of g
+pub record Charged (was : AggregationLimits) (n : ℕ) (is : AggregationLimits) : Type 0 where
+  pub limit : is .limit ≡ was .limit
+  pub used : is .used ≡ was .used + n
+  pub within : was .used + n ≤ was .limit
 
 -- the sum of a refused charge is above the limit; it stays added, unless it passes 2^64 - 1
-pub record Refused (g : AggregationLimitsGuard) (n : ℕ) (h : AggregationLimitsGuard) : Type 0 where
-  pub above : limit-of g < used-of g + n
-  pub added : used-of g + n < 2 ^ 64 → used-of h ≡ used-of g + n
-  pub not-added : 2 ^ 64 ≤ used-of g + n → used-of h ≡ used-of g
+pub record Refused (was : AggregationLimits) (n : ℕ) (is : AggregationLimits) : Type 0 where
+  pub limit : is .limit ≡ was .limit
+  pub above : was .limit < was .used + n
+  pub added : was .used + n < 2 ^ 64 → is .used ≡ was .used + n
+  pub not-added : 2 ^ 64 ≤ was .used + n → is .used ≡ was .used
 
 -- the answer to a charge of n that the counter is asked for and that is taken back
 abbrev pub Passes : AggregationLimits → (level n : ℕ) → Result (Unit {0}) Fault → Type 0

@@ -13,6 +13,33 @@ pub struct AggregationLimits {
     pub used: u64,
 }
 
+impl AggregationLimits {
+    /// Charges `n` rows that the level makes (0 where no level does).
+    ///
+    /// The charge is added first, and refused with `AllowanceExceeded` if the sum is above the limit; it then stays
+    /// added. A sum past 2^64 − 1 is refused and not added.
+    pub fn charge(&mut self, level: u32, n: u64) -> Result<(), Fault>
+        ensures { λ r. ⌜ Cases r (λ _. Charged (now (self .entry)) n (now (self .exit))) (λ f. (f ≡ over-allowance level) × Refused (now (self .entry)) n (now (self .exit))) ⌝ }
+    {
+        let limit = self.limit;
+        let over = Fault {
+            refusal: Refusal::AllowanceExceeded,
+            level,
+            place: 0,
+        };
+        match self.used.checked_add(n) {
+            Some(sum) => {
+                self.used = sum;
+                if sum > limit {
+                    return Err(over);
+                }
+                Ok(())
+            }
+            None => Err(over),
+        }
+    }
+}
+
 /// A guard on the counter: everything charged under it is taken back when it ends, on whichever way out.
 ///
 /// A guard within a guard is opened on the counter behind it, `AggregationLimitsGuard::new(&mut *guard.limits)`.
@@ -44,30 +71,12 @@ impl<'a> AggregationLimitsGuard<'a> {
         AggregationLimitsGuard { limits, before }
     }
 
-    /// Charges `n` rows that the level makes (0 where no level does).
-    ///
-    /// The charge is added first, and refused with `AllowanceExceeded` if the sum is above the limit; it then stays
-    /// added. A sum past 2^64 − 1 is refused and not added.
+    /// Charges `n` rows to the counter, as `AggregationLimits::charge` does.
     pub fn charge(&mut self, level: u32, n: u64) -> Result<(), Fault>
         ensures same { λ _. ⌜ Same (now (self .entry)) (now (self .exit)) ⌝ }
-        ensures answer { λ r. ⌜ Cases r (λ _. Charged (now (self .entry)) n (now (self .exit))) (λ f. (f ≡ over-allowance level) × Refused (now (self .entry)) n (now (self .exit))) ⌝ }
+        ensures answer { λ r. ⌜ Cases r (λ _. Charged (now (now (self .entry) .limits)) n (now (now (self .exit) .limits))) (λ f. (f ≡ over-allowance level) × Refused (now (now (self .entry) .limits)) n (now (now (self .exit) .limits))) ⌝ }
     {
-        let limit = self.limits.limit;
-        let over = Fault {
-            refusal: Refusal::AllowanceExceeded,
-            level,
-            place: 0,
-        };
-        match self.limits.used.checked_add(n) {
-            Some(sum) => {
-                self.limits.used = sum;
-                if sum > limit {
-                    return Err(over);
-                }
-                Ok(())
-            }
-            None => Err(over),
-        }
+        self.limits.charge(level, n)
     }
 }
 

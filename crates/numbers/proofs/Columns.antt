@@ -1,21 +1,21 @@
 -- Why the conversions of the fast fields are the defined ones, and why a turned range end admits exactly what the end does.
 use mathlib.Core.Path.{_≡_, refl, sym, ap, _∙_, subst}
 use mathlib.Core.Bool.{true, false, not}
-use Prim.Native.Nat.{ℕ, _+_, _-_, _*_, _^_, _≤_, _<_, min}
+use Prim.Native.Nat.{ℕ, _-_, _*_, _^_, _≤_, _<_}
 use native.Mathlib.Omega.{arith}
 use lib.Dec.{T}
-use lib.IntN.{ℤ, pos, _+ℤ_, _-ℤ_}
-use lib.Ieee.{Float, nan, inf, fin, up, down, binary64, isNan, fits, ofBits, toBits}
+use lib.IntN.{pos, _+ℤ_}
+use lib.Ieee.{Float, nan, inf, fin, up, down, binary64, isNan, ofBits, toBits}
 use lib.Ieee.Bits.{toBits-ofBits, ofBits-toBits, toBits-lt}
 use lib.Ieee.Fits.{down-pos}
 use Rattle.std.proofs.shelf.Signed.{ints}
 use Rattle.std.proofs.shelf.Ways.{tells}
-use Rattle.records.specs.ColumnTypes.{Form, whole, float, rule}
+use Rattle.records.specs.ColumnTypes.{Form, whole, rule}
 use Rattle.records.specs.declared.column_type.ColumnType.{ColumnType}
 use Rattle.records.specs.declared.column_type.ColumnType.the-variants.{U64, I64, F64, DateTime}
 use Rattle.numbers.specs.Whole.{ceil-i64, ceil-u64, NotBelow}
-use Rattle.numbers.specs.Columns.{bits-of, value-of-bits, less-shift, first-from, number, value, number-of, value-of}
-use Rattle.numbers.specs.Orders.{Undone, Ends, Exact-ends}
+use Rattle.numbers.specs.Columns.{bits-of, value-of-bits, less-shift, first-from, value, number-of, value-of}
+use Rattle.numbers.specs.Orders.{Undone, Exact-ends}
 use Rattle.numbers.proofs.Wholes.{raise-from, raise-to}
 
 -- with no shift the first value is the ceiling, and with 2 ^ 63 it is that much more

@@ -1,17 +1,17 @@
 -- Why the order of values is that of their numbers: bits of one sign are in the order of their sizes, and rounding keeps the order.
 use mathlib.Core.Path.{_≡_, refl, sym, ap, _∙_, subst}
-use mathlib.Core.Logic.{_⊎_, inl, inr}
-use mathlib.Core.Bool.{Bool, true, false, not, cond, _&&_, _||_, true≢false}
+use mathlib.Core.Logic.{inl, inr}
+use mathlib.Core.Bool.{Bool, true, false, not, cond, _||_, true≢false}
 use Prim.Native.Nat.{ℕ, zero, suc, _+_, _-_, _*_, _/_, _%_, _^_, _≤_, _<_}
-use native.Mathlib.Nat.{le-trans, le-of-lt, mul-le-mul-left, mul-le-mul-right, mul-le-mul, pow-suc, mod-lt, mod-eq-of-lt, div-add-mod', eq-or-lt-of-le, zero-lt-suc}
+use native.Mathlib.Nat.{le-trans, mul-le-mul-left, mul-le-mul-right, mul-le-mul, pow-suc, mod-eq-of-lt, eq-or-lt-of-le, zero-lt-suc}
 use native.Mathlib.Omega.{arith}
-use lib.Dec.{T, eqb, ltb, leb, leb→le, le→leb, nltb→le}
+use lib.Dec.{T, eqb, ltb, leb→le, nltb→le}
 use lib.IntN.{ℤ, pos, negsuc}
-use lib.Pow.{pow-add, pow-pos, pow-mono}
-use borrow.Author.Tests.{lt-ltb, le-ltb, eq-eqb, ne-eqb, le-leb, lt-leb}
+use lib.Pow.{pow-pos, pow-mono}
+use borrow.Author.Tests.{ne-eqb, le-leb, lt-leb}
 use Rattle.std.proofs.shelf.Tests.{cases-lt}
 use Rattle.std.proofs.shelf.Ways.{tells}
-use lib.Ieee.{Float, nan, inf, fin, Format, binary64, prec, emax, low, up, down, odd, units, round, ofInt, neg, lt, eq, le, below, level, isNan, hid, ones, top, ofFields, ofBits, nanBits}
+use lib.Ieee.{Float, nan, inf, fin, Format, binary64, prec, emax, low, up, down, odd, units, round, ofInt, neg, le, below, level, isNan, ofFields, ofBits}
 use lib.Ieee.Exact.{HasValue, odd-sign}
 use lib.Ieee.Order.{le-of-values, round-mono}
 use lib.Ieee.Fits.{round-is}

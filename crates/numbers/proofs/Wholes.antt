@@ -1,7 +1,7 @@
 -- Why the conversions give the whole numbers next to a float, and where those stand to all others.
 use mathlib.Core.Path.{_≡_, refl, sym, ap, _∙_, subst}
-use mathlib.Core.Logic.{_⊎_, inl, inr}
-use mathlib.Core.Bool.{Bool, true, false, not, _&&_, true≢false, false≢true}
+use mathlib.Core.Logic.{inl, inr}
+use mathlib.Core.Bool.{Bool, true, false, _&&_, true≢false, false≢true}
 use Prim.Native.Nat.{ℕ, zero, suc, _+_, _-_, _*_, _/_, _%_, _^_, _≤_, _<_, min}
 use native.Mathlib.Nat.{mul-one, mul-assoc, mul-pos, mul-comm, mul-add, suc-mul, mul-div-cancel, div-one, div-le-self, div-lt-iff-lt-mul, le-div-iff-mul-le, lt-mul-div-succ, le-mul-of-pos-right, zero-lt-suc, mul-lt-mul-of-pos-right}
 use native.Mathlib.Omega.{arith}
@@ -16,7 +16,7 @@ use lib.Ieee.Back.{round-whole}
 use Rattle.std.specs.Floats as Floats
 use Rattle.std.proofs.shelf.Signed.{ints}
 use Rattle.std.proofs.shelf.Tests.{cases-lt}
-use Rattle.numbers.specs.Whole.{part, over, floor-i64, ceil-i64, ceil-u64, signed, NotAbove, NotBelow, Floor, Ceiling}
+use Rattle.numbers.specs.Whole.{part, over, floor-i64, ceil-i64, ceil-u64, signed, Floor, Ceiling}
 
 pub as-true : {b : Bool} → b ≡ true → T b
 as-true e = subst T (sym e) tt

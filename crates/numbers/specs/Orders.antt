@@ -1,6 +1,6 @@
 -- How the values of a column stand to the numbers that they stand for.
 use mathlib.Core.Path.{_≡_}
-use mathlib.Core.Bool.{not, true}
+use mathlib.Core.Bool.{not}
 use Prim.Native.Nat.{ℕ, _-_, _^_, _≤_, _<_}
 use lib.Dec.{T}
 use lib.Ieee.{Float, binary64, le, isNan, fits}

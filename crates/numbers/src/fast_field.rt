@@ -26,8 +26,9 @@ pub fn f64_from_fastfield_u64(val: u64, field_type: ColumnType) -> f64
     }
 }
 
-/// The least value of a column that stands for no number below `val`, the last one where there is none, and none for a
-/// NaN. Ranges begin and end at such values.
+/// The value of a column at which a range that begins or ends at `val` does so; none for a NaN. On a F64 column it is the
+/// value that stands for `val`, on any other the least one whose whole number is not below `val`, and the last one where
+/// there is none.
 pub fn f64_to_fastfield_u64(val: f64, field_type: ColumnType) -> Option<u64>
     ensures { λ r. ⌜ r ≡ cond (isNan val) None (Some (value-of «field_type» val)) ⌝ }
 {

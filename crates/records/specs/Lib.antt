@@ -3,3 +3,4 @@ pub mod Faults
 pub mod Kinds
 pub mod Paths
 pub mod Refusals
+pub mod Rows

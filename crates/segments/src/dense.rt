@@ -1,8 +1,12 @@
 //! The dense segment.
 ghost use mathlib.Core.Path.{_≡_};
+ghost use Prim.Native.Nat.{ℕ};
 ghost use denote.Ref.{now};
+ghost use Rattle.std.specs.Finite.{nth};
+ghost use Rattle.std.specs.Vec.{listOf};
 ghost use Rattle.segments.specs.Segments.{values, dense};
 use crate::segment::Segment;
+use crate::segment::cut;
 use crate::segment::read;
 use crate::segment::type_of;
 use records::column_type::ColumnType;
@@ -17,22 +21,23 @@ pub struct DenseSegment<'a> {
 }
 
 impl<'a> DenseSegment<'a> {
+    // The values of a column, one for each document from the first, as far as the slice goes.
+    fn column(&self, column: u32) -> &'a [u64]
+        ensures { λ r. ⌜ ((doc : ℕ) → listOf (nth (now r) doc) ≡ values (dense (now (self .entry) .«num_docs») (now (now (self .entry) .«column_types»)) (now (now (self .entry) .values))) column doc) ⌝ }
+    {
+        let all = self.values;
+        let width = self.num_docs as usize;
+        if column as usize >= self.column_types.len() {
+            return &all[0..0];
+        }
+        cut(all, column as usize * width, width)
+    }
+
     // The part of the slice that holds the values of a document: at most one.
     fn part(&self, column: u32, doc: u32) -> &'a [u64]
         ensures { λ r. ⌜ now r ≡ values (dense (now (self .entry) .«num_docs») (now (now (self .entry) .«column_types»)) (now (now (self .entry) .values))) column doc ⌝ }
     {
-        let all = self.values;
-        if column as usize >= self.column_types.len() {
-            return &all[0..0];
-        }
-        if doc >= self.num_docs {
-            return &all[0..0];
-        }
-        let at = column as usize * self.num_docs as usize + doc as usize;
-        if at >= all.len() {
-            return &all[0..0];
-        }
-        &all[at..at + 1]
+        cut(self.column(column), doc as usize, 1)
     }
 }
 

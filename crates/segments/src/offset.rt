@@ -1,8 +1,11 @@
 //! The offset segment.
 ghost use mathlib.Core.Path.{_≡_};
+ghost use Prim.Native.Nat.{ℕ, _+_};
 ghost use denote.Ref.{now};
-ghost use Rattle.segments.specs.Segments.{values, by-offsets};
+ghost use Rattle.std.specs.Finite.{nth};
+ghost use Rattle.segments.specs.Segments.{values, between, by-offsets};
 use crate::segment::Segment;
+use crate::segment::cut;
 use crate::segment::read;
 use crate::segment::type_of;
 use records::column_type::ColumnType;
@@ -19,19 +22,25 @@ pub struct OffsetSegment<'a> {
 }
 
 impl<'a> OffsetSegment<'a> {
+    // The offsets of a column, as far as the slice goes.
+    fn column(&self, column: u32) -> &'a [u32]
+        ensures { λ r. ⌜ ((doc : ℕ) → between (nth (now r) doc) (nth (now r) (doc + 1)) (now (now (self .entry) .values)) ≡ values (by-offsets (now (self .entry) .«num_docs») (now (now (self .entry) .«column_types»)) (now (now (self .entry) .offsets)) (now (now (self .entry) .values))) column doc) ⌝ }
+    {
+        let all = self.offsets;
+        let width = self.num_docs as usize + 1;
+        if column as usize >= self.column_types.len() {
+            return &all[0..0];
+        }
+        cut(all, column as usize * width, width)
+    }
+
     // The part of the slice that holds the values of a document.
     fn part(&self, column: u32, doc: u32) -> &'a [u64]
         ensures { λ r. ⌜ now r ≡ values (by-offsets (now (self .entry) .«num_docs») (now (now (self .entry) .«column_types»)) (now (now (self .entry) .offsets)) (now (now (self .entry) .values))) column doc ⌝ }
     {
         let all = self.values;
-        let offsets = self.offsets;
-        if column as usize >= self.column_types.len() {
-            return &all[0..0];
-        }
-        if doc >= self.num_docs {
-            return &all[0..0];
-        }
-        let at = column as usize * (self.num_docs as usize + 1) + doc as usize;
+        let offsets = self.column(column);
+        let at = doc as usize;
         if at + 1 >= offsets.len() {
             return &all[0..0];
         }

@@ -1,8 +1,7 @@
-use mathlib.Core.Path.{_≡_, sym, ap, _∙_}
+use mathlib.Core.Path.{_≡_, sym, _∙_}
 use borrow.Author.Needs.{needs}
 use native.Mathlib.Omega.{arith}
 use Prim.Native.Nat.{_^_}
-use lib.IntN.{pos, _+ℤ_}
 use Rattle.std.proofs.shelf.Signed.{ints}
 use Rattle.numbers.specs.Columns.{first-from, value-of}
 use Rattle.numbers.proofs.Columns.{first-u64, first-i64}

@@ -1,0 +1,4 @@
+pub mod Calls
+pub mod Levels
+pub mod Overruns
+pub mod Writing
