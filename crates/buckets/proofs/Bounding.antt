@@ -31,33 +31,32 @@ module _ (n : ℕ) (from to : ℕ → ℕ) where
   -- one range more
   pub bounded-more : (i : ℕ) (xs ys zs : List ℕ) → i < n → to i ≤ top → Bounded n from to i xs → With-start xs (from i) ys → With-start ys (to i) zs → Bounded n from to (i + 1) zs
   bounded-more i xs ys zs h fit b w v = record {
-      size = omega (arith, b .size, w .size, v .size);
-      known = λ y s. elim (v .no-more y s) [
-        | inr e ↦ inr (i, (omega arith, inr e))
-        | inl s' ↦ elim (w .no-more y s') [
-            | inr e ↦ inr (i, (omega arith, inl e))
-            | inl s'' ↦ elim (b .known y s'') [ inl z ↦ inl z | inr k ↦ inr (wider i y k) ]
-          ]
-      ];
-      bounds = λ few y low k. elim (cases-eq (k .0) i) [
-        | inr d ↦ v .kept y (w .kept y (b .bounds few y low (k .0, (omega (arith, k .1 .0), k .1 .1))))
-        | inl e ↦ elim (k .1 .1) [
-            | inl a ↦
-                let a' : y ≡ from i = a ∙ ap from e in
-                v .kept y (subst (Starts-at ys) (sym a') (w .added (omega arith) (omega (arith, b .size))))
-            | inr a ↦
-                let a' : y ≡ to i = a ∙ ap to e in
-                subst (Starts-at zs) (sym a') (v .added (omega arith) (omega (arith, b .size, w .size)))
-          ]
-      ];
-      fits = λ k l. elim (cases-eq k i) [ inl e ↦ subst (λ (x : ℕ). to x ≤ top) (sym e) fit | inr d ↦ b .fits k (omega arith) ];
-    }
+    size = omega (arith, b .size, w .size, v .size);
+    known = λ y s. elim (v .no-more y s) [
+      | inr e ↦ inr (i, (omega arith, inr e))
+      | inl s' ↦ elim (w .no-more y s') [
+        | inr e ↦ inr (i, (omega arith, inl e))
+        | inl s'' ↦ elim (b .known y s'') [ inl z ↦ inl z | inr k ↦ inr (wider i y k) ]
+      ]
+    ];
+    bounds = λ few y low k. elim (cases-eq (k .0) i) [
+      | inr d ↦ v .kept y (w .kept y (b .bounds few y low (k .0, (omega (arith, k .1 .0), k .1 .1))))
+      | inl e ↦ elim (k .1 .1) [
+        | inl a ↦
+            let a' : y ≡ from i = a ∙ ap from e in
+            v .kept y (subst (Starts-at ys) (sym a') (w .added (omega arith) (omega (arith, b .size))))
+        | inr a ↦
+            let a' : y ≡ to i = a ∙ ap to e in
+            subst (Starts-at zs) (sym a') (v .added (omega arith) (omega (arith, b .size, w .size)))
+      ]
+    ];
+    fits = λ k l. elim (cases-eq k i) [ inl e ↦ subst (λ (x : ℕ). to x ≤ top) (sym e) fit | inr d ↦ b .fits k (omega arith) ];
+  }
 
 -- ranges that run and are apart
 module _ (n : ℕ) (from to : ℕ → ℕ) (xs : List ℕ) (s : Shape xs) (few : n ≤ 16) (b : Bounded n from to n xs)
-  (runs : (i : ℕ) → i < n → from i < to i)
-  (apart : (i j : ℕ) → i < n → j < n → i ≢ j → (to i ≤ from j) ⊎ (to j ≤ from i)) where
-
+    (runs : (i : ℕ) → i < n → from i < to i)
+    (apart : (i j : ℕ) → i < n → j < n → i ≢ j → (to i ≤ from j) ⊎ (to j ≤ from i)) where
   up : (i j : ℕ) → i < j → j < length xs → getD xs i 0 < getD xs j 0
   up = rises-far xs (length xs) (s .rises)
 
@@ -81,9 +80,9 @@ module _ (n : ℕ) (from to : ℕ → ℕ) (xs : List ℕ) (s : Shape xs) (few :
               let g : to i ≡ to j = ap to e in
               elim (k .1 .1) [ inl a ↦ omega (arith, a, f) | inr a ↦ omega (arith, a, g) ]
           | inr d ↦ elim (apart i j h (k .1 .0) d) [
-              | inl x ↦ elim (k .1 .1) [ inl a ↦ omega (arith, a) | inr a ↦ omega (arith, a) ]
-              | inr x ↦ elim (k .1 .1) [ inl a ↦ omega (arith, a) | inr a ↦ omega (arith, a) ]
-            ]
+            | inl x ↦ elim (k .1 .1) [ inl a ↦ omega (arith, a) | inr a ↦ omega (arith, a) ]
+            | inr x ↦ elim (k .1 .1) [ inl a ↦ omega (arith, a) | inr a ↦ omega (arith, a) ]
+          ]
         ]
   ]
 
@@ -92,9 +91,9 @@ module _ (n : ℕ) (from to : ℕ → ℕ) (xs : List ℕ) (s : Shape xs) (few :
   end-high i k h kl e = elim (cases-lt (k + 1) (length xs)) [
     | inr g ↦ let t = end-top xs k g in let fit = b .fits i h in omega arith
     | inl l ↦ let t = end-is xs k l in let rise = s .rises k l in elim (cases-lt (getD xs (k + 1) 0) (to i)) [
-        | inr g ↦ omega arith
-        | inl g ↦ absurd (none-within i (getD xs (k + 1) 0) h (k + 1, (l, refl)) (omega arith) g)
-      ]
+      | inr g ↦ omega arith
+      | inl g ↦ absurd (none-within i (getD xs (k + 1) 0) h (k + 1, (l, refl)) (omega arith) g)
+    ]
   ]
 
   -- and no later
@@ -139,12 +138,12 @@ module _ (n : ℕ) (from to : ℕ → ℕ) (xs : List ℕ) (s : Shape xs) (few :
             let u = up-to (m + 1) k (omega arith) h in
             inl (omega arith)
         | inr ge ↦ elim (cases-eq k m) [
-            | inl same ↦ absurd (none i l (sym (ap (λ (x : ℕ). getD xs x 0) same ∙ e)))
-            | inr d ↦
-                let t = end-is xs k (omega arith) in
-                let u = up-to (k + 1) m (omega arith) ml in
-                inr (omega arith)
-          ]
+          | inl same ↦ absurd (none i l (sym (ap (λ (x : ℕ). getD xs x 0) same ∙ e)))
+          | inr d ↦
+              let t = end-is xs k (omega arith) in
+              let u = up-to (k + 1) m (omega arith) ml in
+              inr (omega arith)
+        ]
       ]
 
   pub others : (k : ℕ) → k < length xs → ((i : ℕ) × ((i < n) × Tile-is xs k (from i) (to i))) ⊎ Hole n from to xs k
@@ -164,14 +163,14 @@ module _ (n : ℕ) (from to : ℕ → ℕ) (xs : List ℕ) (s : Shape xs) (few :
       elim (b .known (getD xs (k + 1) 0) (k + 1, (h, refl))) [
         | inl z ↦ omega arith
         | inr y ↦ let i = y .0 in let l = y .1 .0 in let r = runs i l in elim (y .1 .1) [
-            | inl e ↦
-                let end = end-same i (k + 1) l h e in
-                elim (hole-next i l) [ inl q ↦ omega arith | inr q ↦ omega arith ]
-            | inr e ↦ elim (hole-k i l) [
-                | inl q ↦ omega arith
-                | inr q ↦ omega arith
-              ]
+          | inl e ↦
+              let end = end-same i (k + 1) l h e in
+              elim (hole-next i l) [ inl q ↦ omega arith | inr q ↦ omega arith ]
+          | inr e ↦ elim (hole-k i l) [
+            | inl q ↦ omega arith
+            | inr q ↦ omega arith
           ]
+        ]
       ]
 
   pub tiled : Tiles n from to xs

@@ -19,7 +19,6 @@ pub end-top : (xs : List ℕ) (k : ℕ) → length xs ≤ k + 1 → tile-end xs 
 end-top xs k h = getD-past xs (k + 1) top h
 
 module _ (n : ℕ) (from to : ℕ → ℕ) (xs ys : List ℕ) (sx : Shape xs) (sy : Shape ys) (tx : Tiles n from to xs) (ty : Tiles n from to ys) where
-
   -- the start of a range is a start of the other tiling
   from-there : (i : ℕ) → i < n → Starts-at ys (from i)
   from-there i h = let r = ty .ranges i h in (r .0, (r .1 .0, r .1 .1 .0))
@@ -43,11 +42,11 @@ module _ (n : ℕ) (from to : ℕ → ℕ) (xs ys : List ℕ) (sx : Shape xs) (s
       elim (tx .others (suc k) h) [
         | inl r ↦ subst (Starts-at ys) (sym (r .1 .1 .0)) (from-there (r .0) (r .1 .0))
         | inr hole ↦ elim (tx .others k (omega arith)) [
-            | inl r ↦
-                let e : to (r .0) ≡ getD xs (suc k) 0 = sym (r .1 .1 .1) ∙ end-is xs k h' ∙ ap (λ (m : ℕ). getD xs m 0) (sym j) in
-                subst (Starts-at ys) e (to-there (r .0) (r .1 .0) (omega arith))
-            | inr hole' ↦ absurd (tx .apart k h' hole' (subst (λ (m : ℕ). Hole n from to xs m) j hole))
-          ]
+          | inl r ↦
+              let e : to (r .0) ≡ getD xs (suc k) 0 = sym (r .1 .1 .1) ∙ end-is xs k h' ∙ ap (λ (m : ℕ). getD xs m 0) (sym j) in
+              subst (Starts-at ys) e (to-there (r .0) (r .1 .0) (omega arith))
+          | inr hole' ↦ absurd (tx .apart k h' hole' (subst (λ (m : ℕ). Hole n from to xs m) j hole))
+        ]
       ]
 
 abbrev Up : List ℕ → Type 0
@@ -68,9 +67,9 @@ not-early xs ys rx ry xy (suc k) s =
     elim (cases-lt (p .0) (q .0)) [
       | inl l ↦ omega arith
       | inr g ↦ elim (cases-eq (q .0) (p .0)) [
-          | inl e ↦ let same : getD ys (q .0) 0 ≡ getD ys (p .0) 0 = ap (λ (m : ℕ). getD ys m 0) e in absurd (let z : ⊥ = omega (arith, same, p .1 .1, q .1 .1, less) in z)
-          | inr d ↦ let down = rises-far ys (length ys) ry (q .0) (p .0) (omega arith) (p .1 .0) in absurd (let z : ⊥ = omega (arith, down, p .1 .1, q .1 .1, less) in z)
-        ]
+        | inl e ↦ let same : getD ys (q .0) 0 ≡ getD ys (p .0) 0 = ap (λ (m : ℕ). getD ys m 0) e in absurd (let z : ⊥ = omega (arith, same, p .1 .1, q .1 .1, less) in z)
+        | inr d ↦ let down = rises-far ys (length ys) ry (q .0) (p .0) (omega arith) (p .1 .0) in absurd (let z : ⊥ = omega (arith, down, p .1 .1, q .1 .1, less) in z)
+      ]
     ]
 
 -- in a rising list equal values stand at one place
@@ -78,9 +77,9 @@ pub one-place : (xs : List ℕ) → Up xs → (i j : ℕ) → i < length xs → 
 one-place xs r i j a b e = elim (cases-lt i j) [
   | inl l ↦ let u = rises-far xs (length xs) r i j l b in absurd (let z : ⊥ = omega arith in z)
   | inr g ↦ elim (cases-eq i j) [
-      | inl same ↦ same
-      | inr d ↦ let u = rises-far xs (length xs) r j i (omega arith) a in absurd (let z : ⊥ = omega arith in z)
-    ]
+    | inl same ↦ same
+    | inr d ↦ let u = rises-far xs (length xs) r j i (omega arith) a in absurd (let z : ⊥ = omega arith in z)
+  ]
 ]
 
 -- so the k-th of xs is the k-th of ys

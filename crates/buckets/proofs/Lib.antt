@@ -4,5 +4,6 @@ pub mod Inserting
 pub mod Picking
 pub mod Ranging
 pub mod Requests
+pub mod Rising
 pub mod Rows
 pub mod Slots

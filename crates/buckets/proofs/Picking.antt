@@ -78,20 +78,23 @@ module _ (p : ℕ → Bool) (before : ℕ → ℕ → Bool) where
 
   first-step : (n : ℕ) → p n ≡ true → (o : Option ℕ) → first-below p before n ≡ o → ((k : ℕ) → o ≡ Some k → First n k) → First (suc n) (sooner before n o)
   first-step n t None e ih = record {
-      there = omega arith; passes = t;
-      first = λ trans irr. below-suc (λ j. p j ≡ true → before j n ≡ false) n (λ j h tj. absurd (both-ways (p j) (none-first n e j h) tj)) (λ _. irr n);
-    }
+    there = omega arith;
+    passes = t;
+    first = λ trans irr. below-suc (λ j. p j ≡ true → before j n ≡ false) n (λ j h tj. absurd (both-ways (p j) (none-first n e j h) tj)) (λ _. irr n);
+  }
   first-step n t (Some k) e ih = let f = ih k refl in elim (cases-bool (before n k)) [
     | inl b ↦ subst (First (suc n)) (sym (cond-true (before n k) n k b)) record {
-        there = omega arith; passes = t;
-        first = λ trans irr. below-suc (λ j. p j ≡ true → before j n ≡ false) n
+      there = omega arith;
+      passes = t;
+      first = λ trans irr. below-suc (λ j. p j ≡ true → before j n ≡ false) n
           (λ j h tj. elim (cases-bool (before j n)) [ inr no-one ↦ no-one | inl yes-one ↦ absurd (both-ways (before j k) (f .first trans irr j h tj) (trans j n k yes-one b)) ])
           (λ _. irr n);
-      }
+    }
     | inr b ↦ subst (First (suc n)) (sym (cond-false (before n k) n k b)) record {
-        there = omega (arith, f .there); passes = f .passes;
-        first = λ trans irr. below-suc (λ j. p j ≡ true → before j k ≡ false) n (f .first trans irr) (λ _. b);
-      }
+      there = omega (arith, f .there);
+      passes = f .passes;
+      first = λ trans irr. below-suc (λ j. p j ≡ true → before j k ≡ false) n (f .first trans irr) (λ _. b);
+    }
   ]
 
   pub some-first : (n k : ℕ) → first-below p before n ≡ Some k → First n k
@@ -103,7 +106,8 @@ module _ (p : ℕ → Bool) (before : ℕ → ℕ → Bool) where
     | inr f ↦
         let r = some-first n k (sym (passed n f) ∙ e) in
         record {
-          there = omega (arith, r .there); passes = r .passes;
+          there = omega (arith, r .there);
+          passes = r .passes;
           first = λ trans irr. below-suc (λ j. p j ≡ true → before j k ≡ false) n (r .first trans irr) (λ t. absurd (both-ways (p n) f t));
         }
   ]

@@ -98,5 +98,5 @@ module _ (t : ColumnType) (rs : List RangeAggregationRange) where
   pub only-overlap : (level : ℕ) → length rs ≢ 0 → length rs ≤ 16 → first-bad t rs ≡ None → range-fault level t rs ≡ mapped (fault OverlappingRanges level) (first-late t rs)
   only-overlap level some few e =
       (λ i. orOther (whenTrue (ne-eqb (length rs) 0 some i) (fault NoRange level 0))
-        (orOther (whenTrue (le-ltb 16 (length rs) few i) (fault TooManyRanges level 0))
-        (orOther (mapped (fault BadRange level) (e i)) (mapped (fault OverlappingRanges level) (first-late t rs)))))
+      (orOther (whenTrue (le-ltb 16 (length rs) few i) (fault TooManyRanges level 0))
+      (orOther (mapped (fault BadRange level) (e i)) (mapped (fault OverlappingRanges level) (first-late t rs)))))

@@ -2,6 +2,7 @@
 -- floor((v - offset) / interval) = p, and begins at p * interval + offset.
 use mathlib.Core.Path.{_≡_}
 use mathlib.Core.Bool.{Bool, false, cond, not, _&&_, _||_}
+use Prim.Native.Nat.{ℕ}
 use lib.Dec.{T, ltb}
 use lib.IntN.{ℤ}
 use lib.Signed.{_≤ℤ_}
@@ -12,9 +13,11 @@ use Rattle.std.specs.declared.option.Option.{Option}
 use Rattle.std.specs.declared.option.Option.the-variants.{Some, None}
 use Rattle.records.specs.ColumnTypes.{rule, scaled}
 use Rattle.records.specs.declared.column_type.ColumnType.{ColumnType}
+use Rattle.records.specs.declared.fault.Fault.{Fault}
 use Rattle.records.specs.declared.fault.Refusal.{Refusal}
 use Rattle.records.specs.declared.fault.Refusal.the-variants.{BadGrid, MinDocCountWithExtendedBounds, ExtendedBoundsOutsideHard}
 use Rattle.numbers.specs.Whole.{floor-i64}
+use Rattle.buckets.specs.Ranges.{fault}
 use Rattle.buckets.specs.declared.histogram.HistogramBounds.{HistogramBounds}
 use Rattle.buckets.specs.declared.histogram.HistogramAggregation.{HistogramAggregation}
 use Rattle.buckets.specs.declared.grid.Grid.{Grid}
@@ -95,6 +98,10 @@ grid-refusal t q =
     cond (bad-grid q || bad-grid (in-unit t q)) (Some BadGrid)
     (cond (ltb 0 (q .«min_doc_count») && isSome (q .«extended_bounds»)) (Some MinDocCountWithExtendedBounds)
     (cond (outside (q .«extended_bounds») (q .«hard_bounds»)) (Some ExtendedBoundsOutsideHard) None))
+
+-- the same with the level; a grid has no places
+abbrev pub histogram-fault : ℕ → ColumnType → HistogramAggregation → Option Fault
+histogram-fault level t q = mapped (λ refusal. fault refusal level 0) (grid-refusal t q)
 
 -- ---- laws
 

@@ -1,3 +1,4 @@
+pub mod Cases
 pub mod Grids
 pub mod Picks
 pub mod Ranges

@@ -2,7 +2,7 @@
 -- to its end, excluded.
 use mathlib.Core.Path.{_≡_}
 use mathlib.Core.Bool.{Bool, true, false, cond, _||_, _&&_}
-use mathlib.Core.List.{List}
+use mathlib.Core.List.{List, [], _∷_}
 use mathlib.Core.Logic.{_⊎_, _≢_}
 use Prim.Native.Nat.{ℕ, _-_, _^_, _<_, _≤_}
 use lib.Dec.{leb, ltb, eqb}
@@ -17,6 +17,7 @@ use Rattle.records.specs.declared.fault.Refusal.{Refusal}
 use Rattle.records.specs.declared.fault.Refusal.the-variants.{NoRange, TooManyRanges, BadRange, OverlappingRanges}
 use Rattle.numbers.specs.Columns.{value-of}
 use Rattle.buckets.specs.Picks.{any-below, first-below}
+use Rattle.buckets.specs.Tilings.{put-start, Shape, Tiles}
 use Rattle.buckets.specs.declared.range.RangeAggregationRange.{RangeAggregationRange}
 
 -- the column's value at an end of a range; an end that is no number is told apart before
@@ -75,6 +76,11 @@ range-fault level t rs =
     (orOther (mapped (fault BadRange level) (first-bad t rs))
     (mapped (fault OverlappingRanges level) (first-late t rs))))
 
+-- the starts of the ranges' tiling: 0 and every start and end below the top, rising, each once
+abbrev pub tiling-of : ColumnType → List RangeAggregationRange → List ℕ
+tiling-of t [] = 0 ∷ []
+tiling-of t (r ∷ rs) = put-start (start-of t r) (put-start (end-of t r) (tiling-of t rs))
+
 -- ---- in words
 
 -- what accepted ranges are: some, few, each with a start below its end, no two with a value in common
@@ -90,3 +96,7 @@ pub record Overlap-at (t : ColumnType) (rs : List RangeAggregationRange) (j : �
   pub there : j < length rs
   pub overlaps : (i : ℕ) × ((i < length rs) × ((earlier t rs i j ≡ true) × (from-at t rs j < to-at t rs i)))
   pub first : (k : ℕ) → k < length rs → late t rs k ≡ true → earlier t rs k j ≡ false
+
+-- the starts of accepted ranges' tiling are what the words say of it
+abbrev pub Tiling-of-accepted : Type 0
+Tiling-of-accepted = (level : ℕ) (t : ColumnType) (rs : List RangeAggregationRange) → range-fault level t rs ≡ None → Shape (tiling-of t rs) × Tiles (length rs) (from-at t rs) (to-at t rs) (tiling-of t rs)

@@ -1,9 +1,10 @@
 -- What a tiling is, and where a value lies in it. A tiling is the list of its tiles' starts.
 use mathlib.Core.Path.{_≡_}
-use mathlib.Core.List.{List}
+use mathlib.Core.Bool.{cond}
+use mathlib.Core.List.{List, [], _∷_}
 use mathlib.Core.Logic.{_⊎_}
 use Prim.Native.Nat.{ℕ, suc, _+_, _-_, _^_, _≤_, _<_}
-use lib.Dec.{leb}
+use lib.Dec.{leb, ltb, eqb}
 use lib.ListN.{length, getD, take}
 use Rattle.buckets.specs.Picks.{last-below}
 use Rattle.buckets.specs.declared.tiling.Tiling.{Tiling}
@@ -65,3 +66,12 @@ pub record Tiles (n : ℕ) (from to : ℕ → ℕ) (starts : List ℕ) : Type 0 
 -- these determine the tiling
 abbrev pub Tiling-determined : Type 0
 Tiling-determined = (n : ℕ) (from to : ℕ → ℕ) (xs ys : List ℕ) → Shape xs → Shape ys → Tiles n from to xs → Tiles n from to ys → xs ≡ ys
+
+-- a rising list and x besides, unless x stands in it
+abbrev pub put-in : ℕ → List ℕ → List ℕ
+put-in x [] = x ∷ []
+put-in x (y ∷ ys) = cond (ltb x y) (x ∷ y ∷ ys) (cond (eqb x y) (y ∷ ys) (y ∷ put-in x ys))
+
+-- no tile starts at the top
+abbrev pub put-start : ℕ → List ℕ → List ℕ
+put-start x xs = cond (ltb x top) (put-in x xs) xs

@@ -2,9 +2,11 @@
 ghost use mathlib.Core.Path.{_≡_};
 ghost use Rattle.std.specs.Options.{mapped};
 ghost use Rattle.std.specs.Results.{errPart};
-ghost use Rattle.buckets.specs.Grids.{within, outside, in-unit, in-unit-bounds, bad-bounds, bad-offset, bad-grid, grid-refusal};
+ghost use Rattle.buckets.specs.Grids.{within, outside, in-unit, in-unit-bounds, bad-bounds, bad-offset, bad-grid, grid-refusal, histogram-fault};
+ghost use Rattle.records.specs.Faults.{Answers};
 use records::column_type::ColumnType;
 use records::column_type::in_column_unit;
+use records::fault::Fault;
 use records::fault::Refusal;
 
 /// A closed range of numbers, either to limit the slots (hard bounds) or to extend them (extended bounds).
@@ -130,6 +132,24 @@ impl HistogramAggregation {
             return Err(Refusal::ExtendedBoundsOutsideHard);
         }
         Ok(())
+    }
+}
+
+/// Refuses a request as `validate` does, for the level that asks.
+pub fn validate_histogram(
+    req: &HistogramAggregation,
+    field_type: ColumnType,
+    level: u32,
+) -> Result<(), Fault>
+    ensures { λ r. ⌜ Answers r (histogram-fault level «field_type» (now (req .entry))) ⌝ }
+{
+    match req.validate(field_type) {
+        Ok(()) => Ok(()),
+        Err(refusal) => Err(Fault {
+            refusal,
+            level,
+            place: 0,
+        }),
     }
 }
 

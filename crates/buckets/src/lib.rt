@@ -1,4 +1,5 @@
 //! Tilings of range levels, grids of histogram levels, and the checks of their requests.
+pub mod cases;
 pub mod grid;
 pub mod histogram;
 pub mod range;
