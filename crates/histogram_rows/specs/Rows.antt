@@ -1,0 +1,58 @@
+-- What a histogram level's table shows, and what a request asks for.
+use mathlib.Core.Path.{_≡_}
+use mathlib.Core.List.{List}
+use Prim.Native.Nat.{ℕ, _<_}
+use lib.Dec.{eqb}
+use lib.IntN.{ℤ, pos}
+use lib.ListN.{getD, take}
+use Rattle.std.specs.shelf.Lists.{kept-by}
+use Rattle.std.specs.declared.option.Option.{Option}
+use Rattle.std.specs.declared.option.Option.the-variants.{Some, None}
+use Rattle.records.specs.declared.column_type.ColumnType.{ColumnType}
+use Rattle.records.specs.declared.column_type.ColumnType.the-variants.{U64}
+use Rattle.records.specs.declared.fault.Fault.{Fault}
+use Rattle.records.specs.declared.fault.Refusal.the-variants.{UnknownColumn}
+use Rattle.numbers.specs.Columns.{number-of}
+use Rattle.buckets.specs.Grids.{position-of, grid-of, histogram-fault}
+use Rattle.buckets.specs.declared.grid.Grid.{Grid}
+use Rattle.stack.specs.Levels.{Lvl, histogram-level}
+use Rattle.rows.specs.Tables.{Table}
+use Rattle.histogram_rows.specs.declared.histogram_rows.HistogramRows.{HistogramRows}
+use Rattle.histogram_rows.specs.declared.request.HistogramRequest.{HistogramRequest}
+
+-- a column's values by the slots of a grid
+abbrev pub slots : ℕ → ColumnType → Grid → Lvl
+slots column t g = histogram-level column (λ v. position-of g (number-of t v))
+
+abbrev pub table-of : HistogramRows → Table
+table-of c = record {
+  level = slots (c .column) (c .«field_type») (c .grid);
+  number = c .number;
+  rows = c .rows;
+  bucket = λ k. getD (c .buckets) k 0;
+  step = λ k. getD (c .positions) k (pos 0);
+  count = λ k. getD (c .counts) k 0;
+}
+
+-- the rows below a bucket: those of the index that are its own
+abbrev pub listed-of : HistogramRows → ℕ → List ℕ
+listed-of c b = kept-by (λ k. eqb (getD (c .buckets) k 0) b) (take (c .rows) (c .order))
+
+-- row k is that of a bucket and a position
+pub record Is-row (c : HistogramRows) (k b : ℕ) (p : ℤ) : Type 0 where
+  pub there : k < c .rows
+  pub bucket : getD (c .buckets) k 0 ≡ b
+  pub position : getD (c .positions) k (pos 0) ≡ p
+
+-- the type of a column, U64 where it has none
+abbrev pub type-or-u64 : Option ColumnType → ColumnType
+type-or-u64 None = U64
+type-or-u64 (Some t) = t
+
+abbrev pub asked-of : HistogramRequest → Option ColumnType → Lvl
+asked-of q t = slots (q .column) (type-or-u64 t) (grid-of (type-or-u64 t) (q .aggregation))
+
+-- an unknown column is refused first
+abbrev pub refused-of : HistogramRequest → Option ColumnType → ℕ → Option Fault
+refused-of q None n = Some (record { refusal = UnknownColumn; level = n; place = 0 })
+refused-of q (Some t) n = histogram-fault n t (q .aggregation)

@@ -1,0 +1,5 @@
+//! The table of a histogram level.
+pub mod histogram_rows;
+mod index;
+pub mod request;
+pub mod table;

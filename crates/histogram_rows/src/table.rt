@@ -1,0 +1,1 @@
+//! The table of a histogram level, as levels use it.
