@@ -1,2 +1,4 @@
+pub mod Members
 pub mod Ordering
+pub mod Placing
 pub mod Searching
