@@ -1,3 +1,6 @@
+pub mod Adding
+pub mod Keeping
+pub mod Listing
 pub mod Members
 pub mod Ordering
 pub mod Placing

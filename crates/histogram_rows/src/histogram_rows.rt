@@ -1,8 +1,10 @@
 //! A histogram level's table, apart from its functions, so that specs can name it.
 ghost use mathlib.Core.Path.{_≡_};
-ghost use mathlib.Core.Bool.{true};
-ghost use Prim.Native.Nat.{ℕ, _≤_, _<_};
+ghost use mathlib.Core.Bool.{true, false};
+ghost use Prim.Native.Nat.{ℕ, _-_, _^_, _≤_, _<_};
+ghost use lib.IntN.{pos, negsuc};
 ghost use lib.ListN.{length, getD, take};
+ghost use lib.Signed.{ltZ};
 ghost use Rattle.histogram_rows.specs.Index.{Precedes, among};
 use buckets::grid::Grid;
 use records::column_type::ColumnType;
@@ -29,6 +31,7 @@ pub struct HistogramRows {
     ghost long_positions: { length positions ≡ 512 },
     ghost long_counts: { length counts ≡ 512 },
     ghost long_order: { length order ≡ 512 },
+    ghost least: { (k : ℕ) → k < rows → ltZ (getD positions k (pos 0)) (negsuc (2 ^ 63 - 1)) ≡ false },
     ghost inside: { (i : ℕ) → i < rows → getD order i 0 < rows },
     ghost all: { (k : ℕ) → k < rows → among k (take rows order) ≡ true },
     ghost rises: { (i j : ℕ) → (i < j) × (j < rows) → Precedes buckets positions (getD order i 0) (getD order j 0) },
