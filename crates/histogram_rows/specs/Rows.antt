@@ -55,6 +55,12 @@ pub record Free (c : HistogramRows) (at b : ℕ) (p : ℤ) : Type 0 where
   pub below : (i : ℕ) → i < at → row-before (c .buckets) (c .positions) (getD (c .order) i 0) b p ≡ true
   pub above : (i : ℕ) → at ≤ i → i < c .rows → before b p (getD (c .buckets) (getD (c .order) i 0) 0) (getD (c .positions) (getD (c .order) i 0) (pos 0)) ≡ true
 
+-- the index up to a place has the rows below lower buckets, from there on the others
+pub record First (c : HistogramRows) (b at : ℕ) : Type 0 where
+  pub within : at ≤ c .rows
+  pub lower : (i : ℕ) → i < at → getD (c .buckets) (getD (c .order) i 0) 0 < b
+  pub upper : (i : ℕ) → at ≤ i → i < c .rows → b ≤ getD (c .buckets) (getD (c .order) i 0) 0
+
 -- one row more, the last, with count 0
 pub record Made (was is : HistogramRows) (b : ℕ) (p : ℤ) : Type 0 where
   pub level : table-of is .level ≡ table-of was .level

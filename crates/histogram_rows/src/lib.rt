@@ -1,6 +1,6 @@
 //! The table of a histogram level.
 pub mod histogram_rows;
 mod index;
-pub mod making;
+mod making;
 pub mod request;
 pub mod table;

@@ -4,6 +4,7 @@ ghost use Prim.Native.Nat.{ℕ, _+_, _-_, _^_, _<_, _≤_};
 ghost use Rattle.std.specs.Finite.{nth};
 ghost use Rattle.std.specs.Options.{Cases as BySome};
 ghost use Rattle.std.specs.Results.{Cases};
+ghost use Rattle.stack.specs.Levels.{step-of};
 ghost use Rattle.rows.specs.Tables.{Table};
 ghost use Rattle.histogram_rows.specs.Rows.{table-of, listed-of, asked-of, refused-of};
 use crate::histogram_rows::HistogramRows;
@@ -23,7 +24,7 @@ use segments::segment::Segment;
 impl HistogramRows {
     /// A table with no rows, for no request yet.
     pub fn new() -> HistogramRows
-        ensures { λ r. ⌜ table-of r .rows ≡ 0 ⌝ }
+        ensures { λ r. ⌜ (table-of r .rows ≡ 0) × (table-of r .number ≡ 0) ⌝ }
     {
         HistogramRows {
             rows: 0,
@@ -43,6 +44,14 @@ impl HistogramRows {
             column: 0,
             number: 0,
         }
+    }
+
+    /// The position of a value of the column; none where it is not counted.
+    fn position_of(&self, val: u64) -> Option<i64>
+        ensures { λ r. ⌜ r ≡ step-of (table-of (now (self .entry)) .level) val ⌝ }
+    {
+        let number = f64_from_fastfield_u64(val, self.field_type);
+        self.grid.position(number)
     }
 }
 
@@ -117,8 +126,7 @@ pub impl RowTable for HistogramRows as HistogramRowsIsTable {
         bucket: u32,
         val: u64,
     ) -> Result<Option<usize>, Fault> {
-        let number = f64_from_fastfield_u64(val, self.field_type);
-        match self.grid.position(number) {
+        match self.position_of(val) {
             None => Ok(None),
             Some(position) => {
                 let row = self.row_of(limits, bucket, position)?;
@@ -146,15 +154,8 @@ pub impl RowTable for HistogramRows as HistogramRowsIsTable {
     }
 
     fn row_at(&self, bucket: u32, index: usize) -> Option<usize> {
-        let first = self.lower_bound(bucket, i64::MIN);
-        if index >= self.rows - first {
-            return None;
-        }
-        let row = self.order[first + index];
-        if self.buckets[row] != bucket {
-            return None;
-        }
-        Some(row)
+        let first = self.first_below(bucket);
+        self.nth_from(first, bucket, index)
     }
 
     fn step_of(&self, row: usize) -> i64 {

@@ -1,4 +1,4 @@
--- The position of the value's number is that of the row.
+-- The position of the value is that of the row.
 use borrow.Author.Needs.{needs}
 use mathlib.Core.Logic.{inl}
 use mathlib.Core.Path.{_≡_, sym, ap, _∙_}
@@ -6,7 +6,6 @@ use mir.Syntax.{w64}
 use mir.Val.{SFits}
 use Rattle.std.proofs.shelf.Signed.{toZ-ofZ}
 use Rattle.std.specs.declared.option.Option.the-variants.{Some}
-use Rattle.buckets.specs.Grids.{position-of}
 use Rattle.histogram_rows.proofs.table.HistogramRowsIsTable.row_for.Needs as need
 
 pub returns-in-Continue-row : need.returns-in-Continue-row
@@ -19,6 +18,6 @@ returns-in-Continue-row c =
       charged = g .charged;
       there = g .row .there;
       bucket = g .row .bucket;
-      step = ap (position-of (c .args .self .now .grid)) (sym (c .f64-from-fastfield-u64-number .ensures)) ∙ sym (c .position .ensures) ∙ c .in-Some .is ∙ ap Some (sym (g .row .position ∙ toZ-ofZ w64 p fits));
+      step = sym (c .position-of .ensures) ∙ c .in-Some .is ∙ ap Some (sym (g .row .position ∙ toZ-ofZ w64 p fits));
       new = λ k l h. inl (g .new k l h);
     }
