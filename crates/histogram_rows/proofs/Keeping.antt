@@ -22,9 +22,10 @@ Pairs R (x ∷ xs) = All (R x) xs × Pairs R xs
 
 pairs-from-places : (R : ℕ → ℕ → Type 0) (xs : List ℕ) → ((i j : ℕ) → i < j → j < length xs → R (getD xs i 0) (getD xs j 0)) → Pairs R xs
 pairs-from-places R [] f = tt
-pairs-from-places R (x ∷ xs) f =
-    (all-from-getD (R x) xs 0 (λ i h. f 0 (suc i) (omega arith) (omega arith)),
-     pairs-from-places R xs (λ i j l h. f (suc i) (suc j) (omega arith) (omega arith)))
+pairs-from-places R (x ∷ xs) f = (
+  all-from-getD (R x) xs 0 (λ i h. f 0 (suc i) (omega arith) (omega arith)),
+  pairs-from-places R xs (λ i j l h. f (suc i) (suc j) (omega arith) (omega arith)),
+)
 
 places-from-pairs : (R : ℕ → ℕ → Type 0) (xs : List ℕ) → Pairs R xs → (i j : ℕ) → i < j → j < length xs → R (getD xs i 0) (getD xs j 0)
 places-from-pairs R [] h i j l m = absurd (let z : ⊥ = omega arith in z)
@@ -43,13 +44,13 @@ kept-rises R p xs f = places-from-pairs R (kept-by p xs) (pairs-kept R p xs (pai
 pub kept-among : (p : ℕ → Bool) (k : ℕ) (xs : List ℕ) → p k ≡ true → among k xs ≡ true → among k (kept-by p xs) ≡ true
 kept-among p k [] h a = a
 kept-among p k (x ∷ xs) h a = elim (or-cases (eqb x k) (among k xs) a) [
-    | inl e ↦
-        let same : p x ≡ true = subst (λ (y : ℕ). p y ≡ true) (sym (eqb-true x k e)) h in
-        subst (λ (ys : List ℕ). among k ys ≡ true) (sym (cond-true (p x) (x ∷ kept-by p xs) (kept-by p xs) same)) (or-left (eqb x k) (among k (kept-by p xs)) e)
-    | inr r ↦
-        let rest = kept-among p k xs h r in
-        cond-both (p x) (x ∷ kept-by p xs) (kept-by p xs) (λ ys. among k ys ≡ true) (λ _. or-right (eqb x k) (among k (kept-by p xs)) rest) (λ _. rest)
-  ]
+  | inl e ↦
+      let same : p x ≡ true = subst (λ (y : ℕ). p y ≡ true) (sym (eqb-true x k e)) h in
+      subst (λ (ys : List ℕ). among k ys ≡ true) (sym (cond-true (p x) (x ∷ kept-by p xs) (kept-by p xs) same)) (or-left (eqb x k) (among k (kept-by p xs)) e)
+  | inr r ↦
+      let rest = kept-among p k xs h r in
+      cond-both (p x) (x ∷ kept-by p xs) (kept-by p xs) (λ ys. among k ys ≡ true) (λ _. or-right (eqb x k) (among k (kept-by p xs)) rest) (λ _. rest)
+]
 
 -- what is left out at the front does not matter
 pub kept-dropped : (p : ℕ → Bool) (xs : List ℕ) (f : ℕ) → f ≤ length xs → ((j : ℕ) → j < f → p (getD xs j 0) ≡ false) → kept-by p xs ≡ kept-by p (drop f xs)
@@ -68,23 +69,23 @@ front-rest p x xs f j k l h = f (suc j) (suc k) (omega arith) (omega arith)
 -- once one is left out, all behind it are
 out-behind : (p : ℕ → Bool) (xs : List ℕ) → Front p xs → (j k : ℕ) → j < k → k < length xs → p (getD xs j 0) ≡ false → p (getD xs k 0) ≡ false
 out-behind p xs f j k l h e = elim (cases-bool (p (getD xs k 0))) [
-    | inl t ↦ absurd (both-ways (p (getD xs j 0)) e (f j k l h t))
-    | inr n ↦ n
-  ]
+  | inl t ↦ absurd (both-ways (p (getD xs j 0)) e (f j k l h t))
+  | inr n ↦ n
+]
 
 pub nth-kept : (p : ℕ → Bool) (xs : List ℕ) (i : ℕ) → Front p xs → i < length xs → p (getD xs i 0) ≡ true → nth (kept-by p xs) i ≡ Some (getD xs i 0)
 nth-kept p [] i f h e = absurd (let z : ⊥ = omega arith in z)
 nth-kept p (x ∷ xs) zero f h e = subst (λ (ys : List ℕ). nth ys 0 ≡ Some x) (sym (cond-true (p x) (x ∷ kept-by p xs) (kept-by p xs) e)) refl
 nth-kept p (x ∷ xs) (suc i) f h e =
     subst (λ (ys : List ℕ). nth ys (suc i) ≡ Some (getD xs i 0)) (sym (cond-true (p x) (x ∷ kept-by p xs) (kept-by p xs) (f 0 (suc i) (omega arith) h e)))
-      (nth-kept p xs i (front-rest p x xs f) (omega arith) e)
+    (nth-kept p xs i (front-rest p x xs f) (omega arith) e)
 
 pub nth-kept-none : (p : ℕ → Bool) (xs : List ℕ) (i : ℕ) → Front p xs → (i < length xs → p (getD xs i 0) ≡ false) → nth (kept-by p xs) i ≡ None
 nth-kept-none p [] i f out = refl
 nth-kept-none p (x ∷ xs) zero f out =
     subst (λ (ys : List ℕ). nth ys 0 ≡ None) (sym (cond-false (p x) (x ∷ kept-by p xs) (kept-by p xs) (out (omega arith))))
-      (nth-kept-none p xs 0 (front-rest p x xs f) (λ h. out-behind p (x ∷ xs) f 0 1 (omega arith) (omega arith) (out (omega arith))))
+    (nth-kept-none p xs 0 (front-rest p x xs f) (λ h. out-behind p (x ∷ xs) f 0 1 (omega arith) (omega arith) (out (omega arith))))
 nth-kept-none p (x ∷ xs) (suc i) f out =
     cond-both (p x) (x ∷ kept-by p xs) (kept-by p xs) (λ ys. nth ys (suc i) ≡ None)
-      (λ _. nth-kept-none p xs i (front-rest p x xs f) (λ h. out (omega arith)))
-      (λ e. nth-kept-none p xs (suc i) (front-rest p x xs f) (λ h. out-behind p (x ∷ xs) f 0 (suc (suc i)) (omega arith) (omega arith) e))
+    (λ _. nth-kept-none p xs i (front-rest p x xs f) (λ h. out (omega arith)))
+    (λ e. nth-kept-none p xs (suc i) (front-rest p x xs f) (λ h. out-behind p (x ∷ xs) f 0 (suc (suc i)) (omega arith) (omega arith) e))

@@ -18,6 +18,6 @@ among-from-place (x ∷ xs) k (suc i) h e = or-right (eqb x k) (among k xs) (amo
 pub place-from-among : (xs : List ℕ) (k : ℕ) → among k xs ≡ true → (i : ℕ) × ((i < length xs) × (getD xs i 0 ≡ k))
 place-from-among [] k h = absurd (false≢true h)
 place-from-among (x ∷ xs) k h = elim (or-cases (eqb x k) (among k xs) h) [
-    | inl e ↦ (0, (omega arith, eqb-true x k e))
-    | inr r ↦ let p = place-from-among xs k r in (suc (p .0), (omega (arith, p .1 .0), p .1 .1))
-  ]
+  | inl e ↦ (0, (omega arith, eqb-true x k e))
+  | inr r ↦ let p = place-from-among xs k r in (suc (p .0), (omega (arith, p .1 .0), p .1 .1))
+]

@@ -89,9 +89,7 @@ pub impl RowTable for HistogramRows as HistogramRowsIsTable {
         seg: &S,
         level: u32,
     ) {
-        let field_type = seg
-            .column_type(request.column)
-            .unwrap_or(ColumnType::U64);
+        let field_type = seg.column_type(request.column).unwrap_or(ColumnType::U64);
         self.grid = Grid::new(&request.aggregation, field_type);
         self.field_type = field_type;
         self.column = request.column;
@@ -159,7 +157,11 @@ pub impl RowTable for HistogramRows as HistogramRowsIsTable {
     }
 
     fn step_of(&self, row: usize) -> i64 {
-        if row < self.rows { self.positions[row] } else { 0 }
+        if row < self.rows {
+            self.positions[row]
+        } else {
+            0
+        }
     }
 
     fn count_of(&self, row: usize) -> u64 {
