@@ -30,6 +30,7 @@ use crate::deliver::deliver;
 use crate::deliver::ease;
 
 /// A level with rows: a table of rows, and the cache through which their documents go to the level below.
+#[derive(Drop)]
 pub struct SegmentBucketCollector<K, C> {
     pub inner: K,
     pub below: C,

@@ -1,0 +1,2 @@
+//! The types of whole stacks: levels over caches over levels, a bottom last.
+pub mod levels;
