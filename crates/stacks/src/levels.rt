@@ -182,14 +182,14 @@ mod tests {
         check_eq((out[0].tally.count(), out[1].tally.count()), counts)
     }
 
-    // So many pairs wait in the cache before it is handed over: 2,047; 2,048; and 2,048 with one more to come.
+    // Blocks of 2,047, 2,048 and 2,049 pairs: the cache is full after the pair that follows, after the block, and within it.
     #[test]
     fn caches_one_short_of_full_full_and_past_it() -> Result<(), Fail> {
-        many_pairs(range(LowCardSubAggCache::new(Bottom::new())), &[0; 2046], (2046, 1))?;
         many_pairs(range(LowCardSubAggCache::new(Bottom::new())), &[0; 2047], (2047, 1))?;
+        many_pairs(range(LowCardSubAggCache::new(Bottom::new())), &[0; 2048], (2048, 1))?;
         many_pairs(range(LowCardSubAggCache::new(Bottom::new())), &[0; 2049], (2049, 1))?;
-        many_pairs(range(HighCardSubAggCache::new(Bottom::new())), &[0; 2046], (2046, 1))?;
         many_pairs(range(HighCardSubAggCache::new(Bottom::new())), &[0; 2047], (2047, 1))?;
+        many_pairs(range(HighCardSubAggCache::new(Bottom::new())), &[0; 2048], (2048, 1))?;
         many_pairs(range(HighCardSubAggCache::new(Bottom::new())), &[0; 2049], (2049, 1))
     }
 }
