@@ -52,11 +52,12 @@ docs-for b [] docs = []
 docs-for b (k ∷ ks) [] = []
 docs-for b (k ∷ ks) (d ∷ ds) = cond (eqb k b) (d ∷ docs-for b ks ds) (docs-for b ks ds)
 
--- a run of equal bucket numbers
+-- a run of equal bucket numbers, as long as it goes
 pub record Run (buckets : List ℕ) (start pairs end : ℕ) : Type 0 where
   pub some : start < end
   pub within : end ≤ pairs
   pub equal : (k : ℕ) → start ≤ k → k < end → getD buckets k 0 ≡ getD buckets start 0
+  pub ends : end < pairs → getD buckets end 0 ≡ getD buckets start 0 → ⊥
 
 -- at most so many pairs wait, each for a bucket below 512, and these are their parts
 pub record Waits (waiting : Deliveries) (pending : ℕ) : Type 0 where
