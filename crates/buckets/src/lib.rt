@@ -1,4 +1,7 @@
 //! Tilings of range levels, grids of histogram levels, and the checks of their requests.
+
+#![tactic(auto)]
+
 pub mod cases;
 pub mod grid;
 pub mod histogram;

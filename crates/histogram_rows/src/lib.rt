@@ -1,4 +1,7 @@
 //! The table of a histogram level.
+
+#![tactic(auto)]
+
 pub mod histogram_rows;
 mod index;
 mod making;

@@ -1,4 +1,7 @@
 //! Tallies: what is kept of the values that are counted into a bucket.
+
+#![tactic(auto)]
+
 pub mod exact;
 pub mod extremes;
 pub mod joinable;

@@ -1,4 +1,7 @@
 //! Numbers: what the values of a column stand for, and whole numbers from floats.
+
+#![tactic(auto)]
+
 pub mod fast_field;
 mod mapping;
 pub mod order;

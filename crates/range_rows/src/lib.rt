@@ -1,4 +1,7 @@
 //! The table of a range level.
+
+#![tactic(auto)]
+
 pub mod making;
 pub mod request;
 pub mod row_table;

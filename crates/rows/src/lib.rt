@@ -1,2 +1,5 @@
 //! The interface of a level's table of rows.
+
+#![tactic(auto)]
+
 pub mod table;

@@ -1,4 +1,7 @@
 //! Segments: documents with columns of values, behind one interface.
+
+#![tactic(auto)]
+
 pub mod dense;
 pub mod offset;
 pub mod segment;
