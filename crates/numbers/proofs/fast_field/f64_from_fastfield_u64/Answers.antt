@@ -8,7 +8,7 @@ use Rattle.numbers.proofs.fast_field.f64_from_fastfield_u64.Goals as goal
 pub returns-in-U64 : goal.returns-in-U64
 unfolding number_of
 returns-in-U64 c =
-    let e : c.nearest-u64-to-f64.result ≡ number (whole 0) c.args.val = c.nearest-u64-to-f64.ensures ∙ ap (of_int binary64) (sym (+ℤ_idr (pos c.args.val))) in
+    let e : c.nearest_u64_to_f64.result ≡ number (whole 0) c.args.val = c.nearest_u64_to_f64.ensures ∙ ap (of_int binary64) (sym (+ℤ_idr (pos c.args.val))) in
     search rules
 
 pub returns-in-I64 : goal.returns-in-I64

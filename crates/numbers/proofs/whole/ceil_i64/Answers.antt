@@ -8,6 +8,6 @@ pub returns : goal.returns
 returns c =
     let x = c.args.x in
     let held : fits binary64 x ≡ true = search rules in
-    let e : c.saturating-f64-to-i64.result ≡ ceil_i64 x = c.saturating-f64-to-i64.ensures ∙ ap (to_signed 63) c.ceil.ensures ∙ ceil_i64_is x (as_true held) in
-    let v : to_z w64 (of_z w64 c.saturating-f64-to-i64.result) ≡ ceil_i64 x = search rules in
+    let e : c.saturating_f64_to_i64.result ≡ ceil_i64 x = c.saturating_f64_to_i64.ensures ∙ ap (to_signed 63) c.ceil.ensures ∙ ceil_i64_is x (as_true held) in
+    let v : to_z w64 (of_z w64 c.saturating_f64_to_i64.result) ≡ ceil_i64 x = search rules in
     record { value = v; order = subst (λ (r : ℤ). Ceiling (neg_ℤ (pos (2 ^ 63))) (pos (2 ^ 63 - 1)) x r) (sym v) (ceil_i64_order x) }

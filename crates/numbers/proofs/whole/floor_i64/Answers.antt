@@ -5,20 +5,20 @@ use Rattle.numbers.proofs.Wholes.{as_true, floor_order}
 use Rattle.numbers.proofs.Cuts.{floor_by_cut}
 use Rattle.numbers.proofs.whole.floor_i64.Goals as goal
 
-pub returns-then-nearest-i64-to-f64-x : goal.returns-then-nearest-i64-to-f64-x
-returns-then-nearest-i64-to-f64-x c =
+pub returns-then-nearest_i64_to_f64-x : goal.returns-then-nearest_i64_to_f64-x
+returns-then-nearest_i64_to_f64-x c =
     let x = c.args.x in
     let held : fits binary64 x ≡ true = search rules in
     let t : lt x (of_int binary64 (to_signed 63 x)) ≡ true = search rules in
     let f = floor_by_cut x true (as_true held) t in
-    let v : to_z w64 (of_z w64 c.saturating-sub.result) ≡ floor_i64 x = search rules in
+    let v : to_z w64 (of_z w64 c.saturating_sub.result) ≡ floor_i64 x = search rules in
     record { value = v; order = subst (λ (r : ℤ). Floor (neg_ℤ (pos (2 ^ 63))) (pos (2 ^ 63 - 1)) x r) (sym v) (floor_order x) }
 
-pub returns-else-nearest-i64-to-f64-x : goal.returns-else-nearest-i64-to-f64-x
-returns-else-nearest-i64-to-f64-x c =
+pub returns-else-nearest_i64_to_f64-x : goal.returns-else-nearest_i64_to_f64-x
+returns-else-nearest_i64_to_f64-x c =
     let x = c.args.x in
     let held : fits binary64 x ≡ true = search rules in
     let t : lt x (of_int binary64 (to_signed 63 x)) ≡ false = search rules in
     let f = floor_by_cut x false (as_true held) t in
-    let v : to_z w64 (of_z w64 c.saturating-f64-to-i64-cut.result) ≡ floor_i64 x = search rules in
+    let v : to_z w64 (of_z w64 c.saturating_f64_to_i64-cut.result) ≡ floor_i64 x = search rules in
     record { value = v; order = subst (λ (r : ℤ). Floor (neg_ℤ (pos (2 ^ 63))) (pos (2 ^ 63 - 1)) x r) (sym v) (floor_order x) }
