@@ -1,6 +1,6 @@
 //! Count, compensated sum, least and greatest of the values as numbers.
 ghost use Rattle.std.specs.Prelude.{◌≡◌, Decides, from_bits};
-ghost use Rattle.std.specs.Float.{binary64};
+ghost use Rattle.std.specs.Float.{binary64, float_min, float_max};
 ghost use Rattle.std.specs.Float.Ieee.{add, sub};
 ghost use Rattle.metrics.specs.Sums.{Sums, no_sums, excess, advanced, collected, merged, stats_worth, stored, mean, finalized};
 ghost use Rattle.numbers.specs.Columns.{number_of};
@@ -114,8 +114,8 @@ impl IntermediateStats {
         self.count = self.count.saturating_add(count);
         self.sum = f64_to_bits_with_nan(sum);
         self.delta = f64_to_bits_with_nan(delta);
-        self.min = f64_to_bits_with_nan(f64_from_bits_with_nan(self.min).min(min));
-        self.max = f64_to_bits_with_nan(f64_from_bits_with_nan(self.max).max(max));
+        self.min = f64_to_bits_with_nan(least(f64_from_bits_with_nan(self.min), min));
+        self.max = f64_to_bits_with_nan(greatest(f64_from_bits_with_nan(self.max), max));
     }
 }
 
@@ -129,6 +129,20 @@ fn kahan(sum: f64, y: f64) -> (f64, f64)
     } else {
         (t, 0.0)
     }
+}
+
+/// The lesser of two floats: the other one where one is a NaN, and the first where they compare equal, as -0 and +0.
+fn least(a: f64, b: f64) -> f64
+    ensures { result ≡ float_min a b }
+{
+    if a <= b || b.is_nan() { a } else { b }
+}
+
+/// The greater of two floats: the other one where one is a NaN, and the first where they compare equal.
+fn greatest(a: f64, b: f64) -> f64
+    ensures { result ≡ float_max a b }
+{
+    if a >= b || b.is_nan() { a } else { b }
 }
 
 /// Whether two patterns stand for the same float; any NaN is one.
