@@ -41,7 +41,7 @@ pub trait RowTable {
         seg: &S,
         level: u32,
     ) -> Result<(), Fault>
-        ensures { Answers result (refused request.now ranges.now (means seg.now).column_type level) };
+        ensures { Answers result (refused request.now ranges.now (S.means seg.now).column_type level) };
 
     /// Takes up a request that was accepted, with no rows.
     fn reset<S: Segment>(
@@ -51,7 +51,7 @@ pub trait RowTable {
         seg: &S,
         level: u32,
     )
-        ensures plans { refused request.now ranges.now (means seg.now).column_type level ≡ None → (table self.new).level ≡ asked request.now ranges.now (means seg.now).column_type }
+        ensures plans { refused request.now ranges.now (S.means seg.now).column_type level ≡ None → (table self.new).level ≡ asked request.now ranges.now (S.means seg.now).column_type }
         ensures empties { ((table self.new).rows ≡ 0) × ((table self.new).number ≡ level) };
 
     /// The column that the level sorts.

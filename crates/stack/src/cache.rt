@@ -62,7 +62,7 @@ pub trait SubAggCache {
         seg: &S,
         level: u32,
     ) -> Result<(), Fault>
-        ensures { Answers result (refused request.now ranges.now (means seg.now).column_type level) };
+        ensures { Answers result (refused request.now ranges.now (S.means seg.now).column_type level) };
 
     /// Empties the cache and all below it.
     fn reset<S: Segment>(
@@ -73,7 +73,7 @@ pub trait SubAggCache {
         slots: &mut [Self::Fruit],
         level: u32,
     )
-        ensures plans { refused request.now ranges.now (means seg.now).column_type level ≡ None → plan self.new ≡ asked request.now ranges.now (means seg.now).column_type }
+        ensures plans { refused request.now ranges.now (S.means seg.now).column_type level ≡ None → plan self.new ≡ asked request.now ranges.now (S.means seg.now).column_type }
         ensures empties { (level + length (plan self.new).levels < 2 ^ 32 → (g : Seg) → (buckets : ℕ) → stored self.new slots.new g level buckets none_yet) × (made self.new ≡ 0) × (pending self.new ≡ 0) };
 
     /// Whether no pair more finds room. Some list of at most 2,048 pairs, for buckets below 512, is what waits.
@@ -97,8 +97,8 @@ pub trait SubAggCache {
         slots: &mut [Self::Fruit],
     ) -> Result<(), Fault>
         ensures { MatchResult result
-            (λ _. Went (stored self.old slots.old (means seg.now)) (stored self.new slots.new (means seg.now)) (Inside (waiting self.old)) (λ D. all_added D (waiting self.old)) (plan self.old) (plan self.new) limits.old limits.new (made self.old) (made self.new) × (pending self.new ≡ 0))
-            (λ f. Overran 1 (plan self.old) (length slots.old) (means seg.now) (stored self.old slots.old (means seg.now)) (Inside (waiting self.old)) (λ D. all_added D (waiting self.old)) limits.old limits.new (made self.old) (made self.new) f) };
+            (λ _. Went (stored self.old slots.old (S.means seg.now)) (stored self.new slots.new (S.means seg.now)) (Inside (waiting self.old)) (λ D. all_added D (waiting self.old)) (plan self.old) (plan self.new) limits.old limits.new (made self.old) (made self.new) × (pending self.new ≡ 0))
+            (λ f. Overran 1 (plan self.old) (length slots.old) (S.means seg.now) (stored self.old slots.old (S.means seg.now)) (Inside (waiting self.old)) (λ D. all_added D (waiting self.old)) limits.old limits.new (made self.old) (made self.new) f) };
 
     /// Hands over, and has the level below hand on all it has, all the way down.
     fn flush<S: Segment>(
@@ -108,8 +108,8 @@ pub trait SubAggCache {
         slots: &mut [Self::Fruit],
     ) -> Result<(), Fault>
         ensures { MatchResult result
-            (λ _. Went (stored self.old slots.old (means seg.now)) (stored self.new slots.new (means seg.now)) (Inside (waiting self.old)) (λ D. all_added D (waiting self.old)) (plan self.old) (plan self.new) limits.old limits.new (made self.old) (made self.new) × (pending self.new ≡ 0) × rests self.new)
-            (λ f. Overran 1 (plan self.old) (length slots.old) (means seg.now) (stored self.old slots.old (means seg.now)) (Inside (waiting self.old)) (λ D. all_added D (waiting self.old)) limits.old limits.new (made self.old) (made self.new) f) };
+            (λ _. Went (stored self.old slots.old (S.means seg.now)) (stored self.new slots.new (S.means seg.now)) (Inside (waiting self.old)) (λ D. all_added D (waiting self.old)) (plan self.old) (plan self.new) limits.old limits.new (made self.old) (made self.new) × (pending self.new ≡ 0) × rests self.new)
+            (λ f. Overran 1 (plan self.old) (length slots.old) (S.means seg.now) (stored self.old slots.old (S.means seg.now)) (Inside (waiting self.old)) (λ D. all_added D (waiting self.old)) limits.old limits.new (made self.old) (made self.new) f) };
 
     fn prepare_max_bucket(
         &mut self,

@@ -60,7 +60,7 @@ pub trait SegmentAggregationCollector {
         seg: &S,
         level: u32,
     ) -> Result<(), Fault>
-        ensures { Answers result (refused request.now ranges.now (means seg.now).column_type level) };
+        ensures { Answers result (refused request.now ranges.now (S.means seg.now).column_type level) };
 
     /// Empties the level and all below it, and takes up a request that was accepted.
     fn reset<S: Segment>(
@@ -71,7 +71,7 @@ pub trait SegmentAggregationCollector {
         slots: &mut [Self::Fruit],
         level: u32,
     )
-        ensures plans { refused request.now ranges.now (means seg.now).column_type level ≡ None → plan self.new ≡ asked request.now ranges.now (means seg.now).column_type }
+        ensures plans { refused request.now ranges.now (S.means seg.now).column_type level ≡ None → plan self.new ≡ asked request.now ranges.now (S.means seg.now).column_type }
         ensures empties { (level + length (plan self.new).levels < 2 ^ 32 → (g : Seg) → (buckets : ℕ) → holds self.new slots.new g level buckets none_yet) × (made self.new ≡ 0) };
 
     /// Takes the documents for a bucket.
@@ -84,8 +84,8 @@ pub trait SegmentAggregationCollector {
         docs: &[u32],
     ) -> Result<(), Fault>
         ensures { MatchResult result
-            (λ _. Went (holds self.old slots.old (means seg.now)) (holds self.new slots.new (means seg.now)) (λ b. bucket < b) (λ D. added D bucket docs.now) (plan self.old) (plan self.new) limits.old limits.new (made self.old) (made self.new))
-            (λ f. Overran 1 (plan self.old) (length slots.old) (means seg.now) (holds self.old slots.old (means seg.now)) (λ b. bucket < b) (λ D. added D bucket docs.now) limits.old limits.new (made self.old) (made self.new) f) };
+            (λ _. Went (holds self.old slots.old (S.means seg.now)) (holds self.new slots.new (S.means seg.now)) (λ b. bucket < b) (λ D. added D bucket docs.now) (plan self.old) (plan self.new) limits.old limits.new (made self.old) (made self.new))
+            (λ f. Overran 1 (plan self.old) (length slots.old) (S.means seg.now) (holds self.old slots.old (S.means seg.now)) (λ b. bucket < b) (λ D. added D bucket docs.now) limits.old limits.new (made self.old) (made self.new) f) };
 
     /// Takes documents for several buckets, each paired with its bucket's number: each run of equal numbers in one go.
     fn collect_multiple<S: Segment>(
@@ -97,8 +97,8 @@ pub trait SegmentAggregationCollector {
         docs: &[u32],
     ) -> Result<(), Fault>
         ensures { MatchResult result
-            (λ _. Went (holds self.old slots.old (means seg.now)) (holds self.new slots.new (means seg.now)) (Inside (λ b. docs_for b bucket_ids.now docs.now)) (λ D. all_added D (λ b. docs_for b bucket_ids.now docs.now)) (plan self.old) (plan self.new) limits.old limits.new (made self.old) (made self.new))
-            (λ f. Overran 1 (plan self.old) (length slots.old) (means seg.now) (holds self.old slots.old (means seg.now)) (Inside (λ b. docs_for b bucket_ids.now docs.now)) (λ D. all_added D (λ b. docs_for b bucket_ids.now docs.now)) limits.old limits.new (made self.old) (made self.new) f) }
+            (λ _. Went (holds self.old slots.old (S.means seg.now)) (holds self.new slots.new (S.means seg.now)) (Inside (λ b. docs_for b bucket_ids.now docs.now)) (λ D. all_added D (λ b. docs_for b bucket_ids.now docs.now)) (plan self.old) (plan self.new) limits.old limits.new (made self.old) (made self.new))
+            (λ f. Overran 1 (plan self.old) (length slots.old) (S.means seg.now) (holds self.old slots.old (S.means seg.now)) (Inside (λ b. docs_for b bucket_ids.now docs.now)) (λ D. all_added D (λ b. docs_for b bucket_ids.now docs.now)) limits.old limits.new (made self.old) (made self.new) f) }
     {
         let pairs = bucket_ids.len().min(docs.len());
         let mut start = 0;
@@ -118,8 +118,8 @@ pub trait SegmentAggregationCollector {
         slots: &mut [Self::Fruit],
     ) -> Result<(), Fault>
         ensures { MatchResult result
-            (λ _. Went (holds self.old slots.old (means seg.now)) (holds self.new slots.new (means seg.now)) (λ b. Unit {0}) (λ D. D) (plan self.old) (plan self.new) limits.old limits.new (made self.old) (made self.new) × settled self.new)
-            (λ f. Overran 1 (plan self.old) (length slots.old) (means seg.now) (holds self.old slots.old (means seg.now)) (λ b. Unit {0}) (λ D. D) limits.old limits.new (made self.old) (made self.new) f) };
+            (λ _. Went (holds self.old slots.old (S.means seg.now)) (holds self.new slots.new (S.means seg.now)) (λ b. Unit {0}) (λ D. D) (plan self.old) (plan self.new) limits.old limits.new (made self.old) (made self.new) × settled self.new)
+            (λ f. Overran 1 (plan self.old) (length slots.old) (S.means seg.now) (holds self.old slots.old (S.means seg.now)) (λ b. Unit {0}) (λ D. D) limits.old limits.new (made self.old) (made self.new) f) };
 
     /// Makes the rows that always stand, for every bucket below `buckets`, here and below.
     fn prepare_max_bucket(

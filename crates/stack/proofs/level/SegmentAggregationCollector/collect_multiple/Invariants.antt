@@ -10,7 +10,7 @@ invariant-loop-start g l =
     let level = g.Self.SegmentAggregationCollector in
     let seg = g.S.Segment.means l.seg in
     Went (level.holds l.initial.self l.initial.slots seg) (level.holds l.self l.slots seg)
-    (Inside (paired l.bucket-ids l.docs)) (λ D. all_added D (before l.bucket-ids l.docs l.start))
+    (Inside (paired l.bucket_ids l.docs)) (λ D. all_added D (before l.bucket_ids l.docs l.start))
     (level.plan l.initial.self) (level.plan l.self) l.initial.limits l.limits (level.made l.initial.self) (level.made l.self)
     × (l.start ≤ l.pairs)
 
