@@ -5,29 +5,29 @@ use Rattle.stack.specs.Calls.{docs_for, Went, Overran, Inside}
 use Rattle.caches.specs.Groups.{each_few}
 use Rattle.caches.proofs.high_card.deliver_partition.Goals as goal
 
-pub overflow-add-end : goal.overflow-add-end
-overflow-add-end g c = let p = c.args.partitions.now in omega (arith, each_few p.lens p.len p.sixteen p.total c.args.partition, p.few, c.requires)
+pub overflow_add-end : goal.overflow_add-end
+overflow_add-end g c = let p = c.args.partitions.now in omega (arith, each_few p.lens p.len p.sixteen p.total c.args.partition, p.few, c.requires)
 
-pub slice-bounds-bucket-ids-end : goal.slice-bounds-bucket-ids-end
-slice-bounds-bucket-ids-end g c = let p = c.args.partitions.now in omega (arith, each_few p.lens p.len p.sixteen p.total c.args.partition, p.few, c.requires)
+pub slice_bounds-bucket_ids-end : goal.slice_bounds-bucket_ids-end
+slice_bounds-bucket_ids-end g c = let p = c.args.partitions.now in omega (arith, each_few p.lens p.len p.sixteen p.total c.args.partition, p.few, c.requires)
 
-pub slice-bounds-docs-end : goal.slice-bounds-docs-end
-slice-bounds-docs-end g c = let p = c.args.partitions.now in omega (arith, each_few p.lens p.len p.sixteen p.total c.args.partition, p.few, c.requires)
+pub slice_bounds-docs-end : goal.slice_bounds-docs-end
+slice_bounds-docs-end g c = let p = c.args.partitions.now in omega (arith, each_few p.lens p.len p.sixteen p.total c.args.partition, p.few, c.requires)
 
 -- from the start of a partition to its end
 long : (start n : ℕ) → start + n - start ≡ n
 long start n = omega arith
 
-pub returns-in-err-collect-multiple : goal.returns-in-err-collect-multiple
-returns-in-err-collect-multiple g c =
-    let q = err_from_is_err_and c.from-residual.result c.from-residual.ensures.1 in
+pub returns-in_err-collect_multiple : goal.returns-in_err-collect_multiple
+returns-in_err-collect_multiple g c =
+    let q = err_from_is_err_and c.from_residual.result c.from_residual.ensures.1 in
     let level = g.L.SegmentAggregationCollector in
     let seg = g.S.Segment.means c.args.seg.now in
     let p = c.args.partitions.now in
     let start = c.args.partition * 2048 in
     let W : ℕ → Deliveries = λ n b. docs_for b (take n (drop start p.bucket_ids)) (take n (drop start p.docs)) in
-    rw (q.1, q.2) (subst (λ (n : ℕ). Overran 1 (level.plan c.args.below.now) (length c.args.slots.now) seg (level.holds c.args.below.now c.args.slots.now seg) (Inside (W n)) (λ D. all_added D (W n)) c.args.limits.now c.collect-multiple.new.limits (level.made c.args.below.now) (level.made c.collect-multiple.new.self) c.in-err-collect-multiple.field-0.0)
-    (long start (get_or p.lens c.args.partition 0)) c.in-err-collect-multiple.ensures)
+    rw (q.1, q.2) (subst (λ (n : ℕ). Overran 1 (level.plan c.args.below.now) (length c.args.slots.now) seg (level.holds c.args.below.now c.args.slots.now seg) (Inside (W n)) (λ D. all_added D (W n)) c.args.limits.now c.collect_multiple.new.limits (level.made c.args.below.now) (level.made c.collect_multiple.new.self) c.in_err-collect_multiple.field-0.0)
+    (long start (get_or p.lens c.args.partition 0)) c.in_err-collect_multiple.ensures)
 
 pub returns : goal.returns
 returns g c =
@@ -35,7 +35,7 @@ returns g c =
     let seg = g.S.Segment.means c.args.seg.now in
     let p = c.args.partitions.now in
     let start = c.args.partition * 2048 in
-    let last = c.collect-multiple.new in
+    let last = c.collect_multiple.new in
     let W : ℕ → Deliveries = λ n b. docs_for b (take n (drop start p.bucket_ids)) (take n (drop start p.docs)) in
     subst (λ (n : ℕ). Went (level.holds c.args.below.now c.args.slots.now seg) (level.holds last.self last.slots seg) (Inside (W n)) (λ D. all_added D (W n)) (level.plan c.args.below.now) (level.plan last.self) c.args.limits.now last.limits (level.made c.args.below.now) (level.made last.self))
-    (long start (get_or p.lens c.args.partition 0)) c.in-ok-collect-multiple.ensures
+    (long start (get_or p.lens c.args.partition 0)) c.in_ok-collect_multiple.ensures

@@ -4,4 +4,4 @@ use Rattle.caches.proofs.low_card.LowCardSubAggCacheSubAggCache.is_full.Goals as
 pub returns : goal.returns
 returns g c =
     let p = c.args.self.now.pairs in
-    record { value = c.is-full.ensures; list = waits_record p.bucket_ids p.docs p.len p.whole p.beside p.few p.low }
+    record { value = c.is_full.ensures; list = waits_record p.bucket_ids p.docs p.len p.whole p.beside p.few p.low }
