@@ -15,8 +15,8 @@ returns-in-None g c =
 pub returns-in-Some : goal.returns-in-Some
 unfolding request_fault
 returns-in-Some g c =
-    let r = c.validate-ranges.result in
+    let r = c.validate_ranges.result in
     let n = c.args.level in
     let own = own_ranges c.args.request.now c.args.ranges.now in
     subst (λ t. Answers r (fault_on t own n)) (sym c.in-Some.is ∙ c.column_type.ensures)
-    (subst (λ rs. Answers r (fault_on (Some c.in-Some.field_type) rs n)) c.ranges-2.ensures c.validate-ranges.ensures.answer)
+    (subst (λ rs. Answers r (fault_on (Some c.in-Some.field_type) rs n)) c.ranges-in-Some.ensures c.validate_ranges.ensures.answer)

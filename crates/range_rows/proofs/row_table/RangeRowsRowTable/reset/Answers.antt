@@ -14,9 +14,9 @@ returns g c =
     let q = c.args.request.now in
     let own = own_ranges q c.args.ranges.now in
     let type-of = (g.S.Segment.means c.args.seg.now).column_type q.column in
-    let starts = starts_of c.extend-ranges-self.result in
-    let e = c.unwrap-or-field-type.ensures ∙ ap (λ o. unwrap_or o U64) c.column_type.ensures in
-    let made = subst (λ rs. (level : ℕ) → range_fault level c.unwrap-or-field-type.result rs ≡ None → starts ≡ tiling_of c.unwrap-or-field-type.result rs) c.ranges-2.ensures c.extend-ranges-self.ensures.value in
+    let starts = starts_of c.extend_ranges-self.result in
+    let e = c.unwrap_or-field_type.ensures ∙ ap (λ o. unwrap_or o U64) c.column_type.ensures in
+    let made = subst (λ rs. (level : ℕ) → range_fault level c.unwrap_or-field_type.result rs ≡ None → starts ≡ tiling_of c.unwrap_or-field_type.result rs) c.ranges-2.ensures c.extend_ranges-self.ensures.value in
     record {
       plans = λ h. ap (range_level q.column) (where_accepted type-of own c.args.level starts h (subst (λ t. (level : ℕ) → range_fault level t own ≡ None → starts ≡ tiling_of t own) e made));
       empties = (refl, refl);
