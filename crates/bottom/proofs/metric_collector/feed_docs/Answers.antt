@@ -10,7 +10,7 @@ pub loop-doc-preserved : goal.loop-doc-preserved
 loop-doc-preserved g c =
     let t = g.T.Tally in
     let m = g.S.Segment.means c.args.seg.now in
-    doc_fed t.fed c.args.field_type m c.args.column c.args.docs.now c.loop-doc.doc-index (t.worth c.args.slot.now) (t.worth c.loop-doc.slot) (t.worth c.feed-doc.new.slot) c.loop-doc-test.true c.loop-doc.invariant c.feed-doc.ensures
+    doc_fed t.fed c.args.field_type m c.args.column c.args.docs.now c.loop-doc.doc-index (t.worth c.args.slot.now) (t.worth c.loop-doc.slot) (t.worth c.feed_doc.new.slot) c.loop-doc-test.true c.loop-doc.invariant c.feed_doc.ensures
 
 pub returns : goal.returns
 returns g c =

@@ -5,4 +5,4 @@ use Rattle.bottom.proofs.metric_collector.SegmentMetricCollectorSegmentAggregati
 
 pub returns : goal.returns
 returns g c seg n buckets D s p i h few =
-    ([], (refl, λ room. record { rows = []; whole = sym (take-append-drop c.args.at c.args.-out.now); size = omega arith; entries_are = refl }))
+    ([], (refl, λ room. record { rows = []; whole = sym (take-append-drop c.args.at c.args._out.now); size = omega arith; entries_are = refl }))
