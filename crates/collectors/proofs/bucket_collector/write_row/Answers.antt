@@ -22,25 +22,25 @@ returns g c = λ seg n E there rests prepared stored depth.
     let type = (cache.plan was).field_type in
     let ls = (cache.plan was).levels in
     let above = above_steps c.args.above in
-    let fits : SFits w64 c.step-of.result = search rules in
-    let path : steps_of c.in-Some.path ≡ above ++ (t.step c.args.row ∷ []) = c.in-Some.ensures ∙ ap (λ (s : ℤ). above ++ (s ∷ [])) (to_z-of_z w64 c.step-of.result fits ∙ c.step-of.ensures there) in
+    let fits : SFits w64 c.step_of.result = search rules in
+    let path : steps_of c.in-Some.path ≡ above ++ (t.step c.args.row ∷ []) = c.in-Some.ensures ∙ ap (λ (s : ℤ). above ++ (s ∷ [])) (to_z-of_z w64 c.step_of.result fits ∙ c.step_of.ensures there) in
     let size : length (steps_of c.in-Some.path) ≡ length above + 1 = ap length path ∙ length-append above (t.step c.args.row ∷ []) in
-    let below = c.write-rows.ensures seg n t.rows E rests prepared there stored (omega (arith, size, depth)) in
+    let below = c.write_rows.ensures seg n t.rows E rests prepared there stored (omega (arith, size, depth)) in
     let es = below.0 in
     let entry : Entry tally.Worth = record { path = above ++ (t.step c.args.row ∷ []); count = t.count c.args.row; worth = row_worth feeding ls column type seg (E c.args.row) } in (
       es,
       (
         subst (λ (p : List ℤ). Written feeding column type seg ls p (E c.args.row) es) path below.1.0,
         λ room.
-            let worth : tally.worth c.tally-of-tally.result ≡ row_worth feeding ls column type seg (E c.args.row) = c.tally-of-tally.ensures seg n t.rows E rests prepared there stored in
-            let row : Row g.row.C-Fruit.Denot = record { path = c.in-Some.path; count = c.count-of-count.result; tally = c.tally-of-tally.result } in
-            let same : entry_of tally.worth row ≡ entry = λ i. record { path = path i; count = c.count-of-count.ensures there i; worth = worth i } in
+            let worth : tally.worth c.tally_of-tally.result ≡ row_worth feeding ls column type seg (E c.args.row) = c.tally_of-tally.ensures seg n t.rows E rests prepared there stored in
+            let row : Row g.row.C-Fruit.Denot = record { path = c.in-Some.path; count = c.count_of-count.result; tally = c.tally_of-tally.result } in
+            let same : entry_of tally.worth row ≡ entry = λ i. record { path = path i; count = c.count_of-count.ensures there i; worth = worth i } in
             let inside : c.args.at < length c.args.out.now = omega (arith, room) in
-            let wrote = c.put-row-next.ensures inside in
-            let room2 : c.put-row-next.result + length es ≤ length c.put-row-next.new.out = omega (arith, room, wrote.1, c.put-row-next.auto.out) in
-            let rest = subst (λ (k : ℕ). Put tally.worth c.put-row-next.new.out c.write-rows.new.out k c.write-rows.result es) wrote.1 (below.1.1 room2) in
-            put_then tally.worth c.args.out.now c.put-row-next.new.out c.write-rows.new.out c.args.at (c.args.at + 1) c.write-rows.result (entry ∷ []) es
-            (omega (arith, room, rest.size, put_size tally.worth c.put-row-next.new.out c.write-rows.new.out (c.args.at + 1) c.write-rows.result es rest))
+            let wrote = c.put_row-next.ensures inside in
+            let room2 : c.put_row-next.result + length es ≤ length c.put_row-next.new.out = omega (arith, room, wrote.1, c.put_row-next.auto.out) in
+            let rest = subst (λ (k : ℕ). Put tally.worth c.put_row-next.new.out c.write_rows.new.out k c.write_rows.result es) wrote.1 (below.1.1 room2) in
+            put_then tally.worth c.args.out.now c.put_row-next.new.out c.write_rows.new.out c.args.at (c.args.at + 1) c.write_rows.result (entry ∷ []) es
+            (omega (arith, room, rest.size, put_size tally.worth c.put_row-next.new.out c.write_rows.new.out (c.args.at + 1) c.write_rows.result es rest))
             (subst (λ z. Put tally.worth c.args.out.now z c.args.at (c.args.at + 1) (entry ∷ [])) (sym wrote.0) (put_one tally.worth c.args.out.now c.args.at row entry inside same))
             rest,
       ),

@@ -20,9 +20,9 @@ returns-then-push g c =
     push_went (cache.stored was slots seg) (cache.stored is slots seg) (cache.waiting was) (cache.waiting is) (Inside (cache.waiting was)) c.args.row c.args.doc (cache.plan was) (cache.plan is) c.args.limits.now (cache.made was) (cache.made is)
     (c.push.ensures.after.waits c.if-push.true) (kept.0 slots seg) kept.1 kept.2
 
-pub returns-in-err-hand-over : goal.returns-in-err-hand-over
-returns-in-err-hand-over g c =
-    let q = err_from_is_err_and c.from-residual.result c.from-residual.ensures.1 in
+pub returns-in_err-hand_over : goal.returns-in_err-hand_over
+returns-in_err-hand_over g c =
+    let q = err_from_is_err_and c.from_residual.result c.from_residual.ensures.1 in
     let cache = g.C.SubAggCache in
     let seg = g.S.Segment.means c.args.seg.now in
     let slots = c.args.slots.now in
@@ -35,29 +35,29 @@ returns-in-err-hand-over g c =
     rw (q.1, q.2) (went_overran 1 (length slots) seg
     (λ n b. Carries (cache.stored was slots seg n b) (cache.waiting was)) (λ n b. Carries (cache.stored mid slots seg n b) (cache.waiting mid))
     (Inside (cache.waiting was)) (Inside (cache.waiting mid)) (Inside (cache.waiting was)) (λ E. E) (λ E. added E c.args.row one) (λ E. added E c.args.row one)
-    (cache.plan was) (cache.plan mid) limits limits c.hand-over.new.limits (cache.made was) (cache.made mid) (cache.made c.hand-over.new.self) c.in-err-hand-over.field-0.0
+    (cache.plan was) (cache.plan mid) limits limits c.hand_over.new.limits (cache.made was) (cache.made mid) (cache.made c.hand_over.new.self) c.in_err-hand_over.field-0.0
     (λ b i. i) (λ b i. subst (λ (w : Deliveries). Inside w b) (sym back.0) i) (λ E. more_refl (added E c.args.row one))
     (still_went (cache.stored was slots seg) (cache.stored mid slots seg) (cache.waiting was) (cache.waiting mid) (Inside (cache.waiting was)) (cache.plan was) (cache.plan mid) limits (cache.made was) (cache.made mid) back.0 (kept.0 slots seg) kept.1 kept.2)
-    (hand_overran 1 (length slots) seg (cache.stored mid slots seg) (cache.waiting mid) (λ E. added E c.args.row one) (cache.plan mid) limits c.hand-over.new.limits (cache.made mid) (cache.made c.hand-over.new.self) c.in-err-hand-over.field-0.0
-    (λ E. more_added E c.args.row one) c.in-err-hand-over.ensures))
+    (hand_overran 1 (length slots) seg (cache.stored mid slots seg) (cache.waiting mid) (λ E. added E c.args.row one) (cache.plan mid) limits c.hand_over.new.limits (cache.made mid) (cache.made c.hand_over.new.self) c.in_err-hand_over.field-0.0
+    (λ E. more_added E c.args.row one) c.in_err-hand_over.ensures))
 
 pub returns : goal.returns
 returns g c =
     let cache = g.C.SubAggCache in
     let seg = g.S.Segment.means c.args.seg.now in
     let slots = c.args.slots.now in
-    let slots' = c.hand-over.new.slots in
+    let slots' = c.hand_over.new.slots in
     let was = c.args.below.now in
     let mid = c.push.new.self in
-    let handed = c.hand-over.new.self in
+    let handed = c.hand_over.new.self in
     let is = c.push-2.new.self in
     let back = c.push.ensures.after.unaltered c.if-push.false in
     let kept = c.push.ensures.kept in
     let kept2 = c.push-2.ensures.kept in
     let limits = c.args.limits.now in
-    let limits' = c.hand-over.new.limits in
+    let limits' = c.hand_over.new.limits in
     let one = c.args.doc ∷ [] in
-    let hand = c.in-ok-hand-over.ensures in
+    let hand = c.in_ok-hand_over.ensures in
     let room : c.push-2.result ≡ true = c.push-2.ensures.answer.0 c.requires ∙ ap not (g.met.C.SubAggCache.roomy handed hand.1) in
     let first = still_went (cache.stored was slots seg) (cache.stored mid slots seg) (cache.waiting was) (cache.waiting mid) (Inside (cache.waiting was)) (cache.plan was) (cache.plan mid) limits (cache.made was) (cache.made mid) back.0 (kept.0 slots seg) kept.1 kept.2 in
     let second = hand_went (cache.stored mid slots seg) (cache.stored handed slots' seg) (cache.waiting mid) (cache.waiting handed) (cache.plan mid) (cache.plan handed) limits limits' (cache.made mid) (cache.made handed)

@@ -32,7 +32,7 @@ loop-doc-preserved g c =
     let i = c.loop-doc.doc-index in
     let docs = c.args.docs.now in
     let d = get_or docs i 0 in
-    let done = c.in-ok-spread.ensures in
+    let done = c.in_ok-spread.ensures in
     let X : ℕ → ℕ → Deliveries → Type 0 = λ n nb D. At t (cache.stored was c.args.slots.now seg) (cache.waiting was) n nb (sorted t.level seg D) in
     let Y : ℕ → ℕ → Deliveries → Type 0 = λ n nb D. At u (cache.stored mid c.loop-doc.slots seg) (cache.waiting mid) n nb (sorted u.level seg D) in
     let Z : ℕ → ℕ → Deliveries → Type 0 = λ n nb D. At w (cache.stored is c.spread.new.slots seg) (cache.waiting is) n nb (sorted w.level seg D) in
@@ -42,9 +42,9 @@ loop-doc-preserved g c =
     c.loop-doc.invariant
     (sent_went u w seg (At u (cache.stored mid c.loop-doc.slots seg) (cache.waiting mid)) (At w (cache.stored is c.spread.new.slots seg) (cache.waiting is)) b d (cache.plan mid) (cache.plan is) c.loop-doc.limits c.spread.new.limits (u.rows + cache.made mid) (w.rows + cache.made is) done.0 done.1)
 
-pub returns-in-err-spread : goal.returns-in-err-spread
-returns-in-err-spread g c =
-    let q = err_from_is_err_and c.from-residual.result c.from-residual.ensures.1 in
+pub returns-in_err-spread : goal.returns-in_err-spread
+returns-in_err-spread g c =
+    let q = err_from_is_err_and c.from_residual.result c.from_residual.ensures.1 in
     let cache = g.C.SubAggCache in
     let seg = g.S.Segment.means c.args.seg.now in
     let t = g.K.RowTable.table c.args.self.now.inner in
@@ -57,7 +57,7 @@ returns-in-err-spread g c =
     let i = c.loop-doc.doc-index in
     let docs = c.args.docs.now in
     let d = get_or docs i 0 in
-    let f = c.in-err-spread.field-0.0 in
+    let f = c.in_err-spread.field-0.0 in
     let X : ℕ → ℕ → Deliveries → Type 0 = λ n nb D. At t (cache.stored was c.args.slots.now seg) (cache.waiting was) n nb (sorted t.level seg D) in
     let Y : ℕ → ℕ → Deliveries → Type 0 = λ n nb D. At u (cache.stored mid c.loop-doc.slots seg) (cache.waiting mid) n nb (sorted u.level seg D) in
     rw (q.1, q.2) (went_overran 1 (length c.args.slots.now) seg X Y (λ k. b < k) (λ k. b < k) (λ k. b < k) (λ D. added D b (take i docs)) (λ D. added D b (d ∷ [])) (λ D. added D b docs)
@@ -66,11 +66,11 @@ returns-in-err-spread g c =
     (λ D. subst (λ (E : Deliveries). More E (added D b docs)) (sym (added_twice D b (take i docs) (d ∷ []) ∙ ap (added D b) (sym (take_more docs i 0 c.loop-doc-test.true)))) (more_added_take D b (i + 1) docs))
     c.loop-doc.invariant
     (subst (λ (m : ℕ). Overran 1 (on_top u.level (cache.plan mid)) m seg Y (λ k. b < k) (λ D. added D b (d ∷ [])) c.loop-doc.limits c.spread.new.limits (u.rows + cache.made mid) (w.rows + cache.made is) f) c.loop-doc.auto.slots
-    (missed_overran u.level (length c.loop-doc.slots) seg (At u (cache.stored mid c.loop-doc.slots seg) (cache.waiting mid)) b d (cache.plan mid) c.loop-doc.limits c.spread.new.limits (u.rows + cache.made mid) (w.rows + cache.made is) f c.in-err-spread.ensures)))
+    (missed_overran u.level (length c.loop-doc.slots) seg (At u (cache.stored mid c.loop-doc.slots seg) (cache.waiting mid)) b d (cache.plan mid) c.loop-doc.limits c.spread.new.limits (u.rows + cache.made mid) (w.rows + cache.made is) f c.in_err-spread.ensures)))
 
-pub returns-in-err-ease : goal.returns-in-err-ease
-returns-in-err-ease g c =
-    let q = err_from_is_err_and c.from-residual-in-err-ease.result c.from-residual-in-err-ease.ensures.1 in
+pub returns-in_err-ease : goal.returns-in_err-ease
+returns-in_err-ease g c =
+    let q = err_from_is_err_and c.from_residual-in_err-ease.result c.from_residual-in_err-ease.ensures.1 in
     let cache = g.C.SubAggCache in
     let seg = g.S.Segment.means c.args.seg.now in
     let t = g.K.RowTable.table c.args.self.now.inner in
@@ -81,7 +81,7 @@ returns-in-err-ease g c =
     let b = c.args.bucket in
     let i = c.loop-doc.doc-index in
     let docs = c.args.docs.now in
-    let f = c.in-err-ease.field-0.0 in
+    let f = c.in_err-ease.field-0.0 in
     let X : ℕ → ℕ → Deliveries → Type 0 = λ n nb D. At t (cache.stored was c.args.slots.now seg) (cache.waiting was) n nb (sorted t.level seg D) in
     let Y : ℕ → ℕ → Deliveries → Type 0 = λ n nb D. At u (cache.stored mid c.loop-doc.slots seg) (cache.waiting mid) n nb (sorted u.level seg D) in
     rw (q.1, q.2) (went_overran 1 (length c.args.slots.now) seg X Y (λ k. b < k) (λ k. b < k) (λ k. b < k) (λ D. added D b (take i docs)) (λ D. D) (λ D. added D b docs)
@@ -89,7 +89,7 @@ returns-in-err-ease g c =
     (λ k h. h) (λ k h. h) (λ D. more_added_take D b i docs)
     c.loop-doc.invariant
     (subst (λ (m : ℕ). Overran 1 (on_top u.level (cache.plan mid)) m seg Y (λ k. b < k) (λ D. D) c.loop-doc.limits c.ease.new.limits (u.rows + cache.made mid) (u.rows + cache.made is) f) c.loop-doc.auto.slots
-    (carried_overran u (g.met.K.RowTable.sound c.loop-doc.self.inner) (length c.loop-doc.slots) seg (cache.stored mid c.loop-doc.slots seg) (cache.waiting mid) (λ k. b < k) (cache.plan mid) c.loop-doc.limits c.ease.new.limits (cache.made mid) (cache.made is) f c.in-err-ease.ensures)))
+    (carried_overran u (g.met.K.RowTable.sound c.loop-doc.self.inner) (length c.loop-doc.slots) seg (cache.stored mid c.loop-doc.slots seg) (cache.waiting mid) (λ k. b < k) (cache.plan mid) c.loop-doc.limits c.ease.new.limits (cache.made mid) (cache.made is) f c.in_err-ease.ensures)))
 
 pub returns : goal.returns
 returns g c =
@@ -110,4 +110,4 @@ returns g c =
     (on_top t.level (cache.plan was)) (on_top u.level (cache.plan mid)) (on_top u.level (cache.plan is)) c.args.limits.now c.loop-doc.limits c.ease.new.limits (t.rows + cache.made was) (u.rows + cache.made mid) (u.rows + cache.made is)
     (λ k h. h) (λ k h. h) (λ D. ap (added D b) (take_all i docs c.loop-doc-test.false))
     c.loop-doc.invariant
-    (carried_went u seg (cache.stored mid c.loop-doc.slots seg) (cache.stored is c.ease.new.slots seg) (cache.waiting mid) (cache.waiting is) (λ k. b < k) (cache.plan mid) (cache.plan is) c.loop-doc.limits c.ease.new.limits (cache.made mid) (cache.made is) c.in-ok-ease.ensures)
+    (carried_went u seg (cache.stored mid c.loop-doc.slots seg) (cache.stored is c.ease.new.slots seg) (cache.waiting mid) (cache.waiting is) (λ k. b < k) (cache.plan mid) (cache.plan is) c.loop-doc.limits c.ease.new.limits (cache.made mid) (cache.made is) c.in_ok-ease.ensures)

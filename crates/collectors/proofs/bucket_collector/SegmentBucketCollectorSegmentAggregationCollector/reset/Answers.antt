@@ -15,7 +15,7 @@ returns g c =
     let slots = c.reset-2.new.slots in
     let empties = c.reset.ensures.empties in
     let below = c.reset-2.ensures.empties in
-    let next : c.saturating-add.result ≡ min (c.args.level + 1) (2 ^ 32 - 1) = c.saturating-add.ensures in
+    let next : c.saturating_add.result ≡ min (c.args.level + 1) (2 ^ 32 - 1) = c.saturating_add.ensures in
     record {
       plans = λ e. let both = none_of _ _ e in ap₂ on_top (c.reset.ensures.plans both.0) (c.reset-2.ensures.plans (subst (λ (k : ℕ). cache.refused c.args.request.now.below c.args.ranges.now (g.S.Segment.means c.args.seg.now).column_type k ≡ None) (sym next) both.1));
       empties = (

@@ -18,8 +18,8 @@ use Rattle.collectors.proofs.bucket_collector.SegmentBucketCollectorSegmentAggre
 empty : Seg
 empty = record { docs = 0; column_type = λ _. None; held = λ _ _. [] }
 
-pub overflow-add-index : goal.overflow-add-index
-overflow-add-index g c =
+pub overflow_add-index : goal.overflow_add-index
+overflow_add-index g c =
     let listed = g.K.RowTable.listed c.args.self.now.inner c.args.bucket in
     let here = read_some listed c.loop-row.index c.in-Some.row (sym c.in-Some.ensures) in
     let few = listed_few (g.K.RowTable.table c.args.self.now.inner) c.args.bucket listed empty (g.met.K.RowTable.sound c.args.self.now.inner) (g.met.K.RowTable.lists c.args.self.now.inner c.args.bucket) in
@@ -50,7 +50,7 @@ loop-row-preserved g c = λ seg n E rests prepared stored depth.
     let low = (g.met.K.RowTable.lists c.args.self.now.inner c.args.bucket).below i here.0 in
     let there : k < t.rows = subst (λ (j : ℕ). j < t.rows) here.1 low.0 in
     let inv = c.loop-row.invariant seg n E rests prepared stored depth in
-    let one = c.write-row-end.ensures seg n E there rests prepared stored depth in
+    let one = c.write_row-end.ensures seg n E there rests prepared stored depth in
     let es = inv.0 in
     let bs = one.0 in
     let entry : Entry tally.Worth = record { path = above ++ (t.step k ∷ []); count = t.count k; worth = row_worth feeding plan.levels plan.column plan.field_type seg (E k) } in (
@@ -62,8 +62,8 @@ loop-row-preserved g c = λ seg n E rests prepared stored depth.
             let first = inv.1.1 (omega (arith, room, size)) in
             let fill = put_size tally.worth c.args.out.now c.loop-row.out c.args.at c.loop-row.end es first in
             let second = one.1.1 (omega (arith, room, size, first.size, fill, c.loop-row.auto.out)) in
-            let fill2 = put_size tally.worth c.loop-row.out c.write-row-end.new.out c.loop-row.end c.write-row-end.result (entry ∷ bs) second in
-            put_then tally.worth c.args.out.now c.loop-row.out c.write-row-end.new.out c.args.at c.loop-row.end c.write-row-end.result es (entry ∷ bs)
+            let fill2 = put_size tally.worth c.loop-row.out c.write_row-end.new.out c.loop-row.end c.write_row-end.result (entry ∷ bs) second in
+            put_then tally.worth c.args.out.now c.loop-row.out c.write_row-end.new.out c.args.at c.loop-row.end c.write_row-end.result es (entry ∷ bs)
             (omega (arith, room, size, first.size, fill, second.size, fill2)) first second,
       ),
     )
@@ -90,7 +90,7 @@ returns g c = λ seg n buckets D settled prepared below holds depth.
     let stored : cache.stored was slots seg (suc n) t.rows y.docs_of = subst (cache.stored was slots seg (suc n) t.rows) same y.of_rows.carries.stores in
     let inv = c.loop-row.invariant seg (suc n) y.docs_of settled.1 prepared.1 stored depth in
     let es = inv.0 in
-    let whole : take c.loop-row.index listed ≡ listed = take_all c.loop-row.index listed (read_none listed c.loop-row.index (sym c.in-default.ensures)) in
+    let whole : take c.loop-row.index listed ≡ listed = take_all c.loop-row.index listed (read_none listed c.loop-row.index (sym c.in_default.ensures)) in
     let blocks = subst (λ (ks : List ℕ). BlocksOf feeding plan seg t y.docs_of above ks es) whole inv.1.0 in (
       es,
       (
