@@ -1,7 +1,7 @@
 -- What a filter keeps of a list: in which order, and, where what it keeps stands together, at which places.
 use Rattle.std.specs.Prelude.{◌≡◌, ℕ, zero, suc, ◌<◌, ◌≤◌, Bool, true, false, cond, List, [], ◌∷◌, length, drop, Some, None, filter, Option, ◌==◌, slice_index, refl}
 use Rattle.std.proofs.Common.{sym, subst, ◌∙◌, inl, inr, arith}
-use Rattle.std.specs.List.{slice_get, AllByRecursion as All}
+use Rattle.std.specs.List.{slice_get, AllByRecursion}
 use Rattle.std.proofs.ByRecursion.{All-get_or, All-from_get_or, all_kept_by}
 use Rattle.std.proofs.lemmas.Bool.{cases_Bool, both_ways, cond-true, cond-false, cond_both, eqb-true, eq-eqb, or_left, or_right, or_cases, false≢true}
 use Rattle.histogram_rows.specs.Index.{among}
@@ -9,7 +9,7 @@ use Rattle.histogram_rows.specs.Index.{among}
 -- each is related to all that follow it
 abbrev Pairs : (ℕ → ℕ → Type 0) → List ℕ → Type 0
 Pairs R [] = Unit {0}
-Pairs R (x ∷ xs) = All (R x) xs × Pairs R xs
+Pairs R (x ∷ xs) = AllByRecursion (R x) xs × Pairs R xs
 
 pairs_from_places : (R : ℕ → ℕ → Type 0) (xs : List ℕ) → ((i j : ℕ) → i < j → j < length xs → R (slice_index xs i) (slice_index xs j)) → Pairs R xs
 pairs_from_places R [] f = tt

@@ -2,7 +2,7 @@
 use Rattle.std.specs.Prelude.{◌≡◌, ℕ, ◌≤◌, min, max, List, [], Some, None, Option}
 use mathlib.Core.List.{Memᴰ}
 use Rattle.records.specs.declared.column_type.ColumnType.{ColumnType}
-use Rattle.std.specs.List.{AllByRecursion as All}
+use Rattle.std.specs.List.{AllByRecursion}
 use Rattle.metrics.specs.Tallies.{fed_all}
 
 abbrev pub Ends : Type 0
@@ -29,7 +29,7 @@ reaching _ v e = widened e (Some (v, v))
 -- the ends of a list: none where it is empty, else two of its values, with every value from the one to the other
 abbrev pub EndsOf : List ℕ → Ends → Type 0
 EndsOf vs None = vs ≡ []
-EndsOf vs (Some p) = Memᴰ p.0 vs × Memᴰ p.1 vs × All (λ v. (p.0 ≤ v) × (v ≤ p.1)) vs
+EndsOf vs (Some p) = Memᴰ p.0 vs × Memᴰ p.1 vs × AllByRecursion (λ v. (p.0 ≤ v) × (v ≤ p.1)) vs
 
 -- Extremes are worth the ends of the values fed
 abbrev pub Reaches : Type 0
