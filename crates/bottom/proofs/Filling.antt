@@ -13,8 +13,8 @@ use Rattle.metrics.proofs.Feeding.{fed-more}
 use Rattle.segments.specs.Segments.{Seg, values}
 use Rattle.segments.proofs.Values.{more, no_more}
 use Rattle.stack.specs.Levels.{Plan, values_of}
-use Rattle.stack.specs.Overruns.{Deliveries, added, numbered, fault}
-use Rattle.stack.specs.Calls.{for_rows, Stopped, Overran}
+use Rattle.stack.specs.Overruns.{Deliveries, added, numbered}
+use Rattle.stack.specs.Calls.{for_rows, Overran}
 use Rattle.stack.specs.Writing.{Feeding}
 use Rattle.stack.proofs.Delivering.{added_same, added_other}
 use Rattle.stack.proofs.Overrunning.{bottom_over}

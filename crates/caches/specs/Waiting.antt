@@ -1,5 +1,5 @@
 -- The pairs that wait in tables: a bucket number and, at the same place, a document.
-use Rattle.std.specs.Prelude.{◌≡◌, ℕ, zero, suc, ◌+◌, ◌-◌, ◌<◌, ◌≤◌, cond, List, [], ◌∷◌, length, take, drop, ◌==◌, slice_index}
+use Rattle.std.specs.Prelude.{ℕ, zero, suc, ◌+◌, ◌-◌, ◌<◌, ◌≤◌, cond, List, [], ◌∷◌, take, drop, ◌==◌, slice_index}
 use Rattle.stack.specs.Overruns.{Deliveries}
 use Rattle.stack.specs.Calls.{docs_for}
 

@@ -1,14 +1,14 @@
 -- Rows written block by block.
-use Rattle.std.proofs.Common.{◌≡◌, ℕ, zero, suc, ◌+◌, ◌-◌, ◌<◌, ◌≤◌, ◌⊎◌, List, [], ◌∷◌, ◌++◌, map, length, get_or, take, drop, set, ℤ, pos, ◌<ℤ◌, Some, None, sym, refl, ap, ◌∙◌, subst, ap₂, inl, inr, append_assoc, arith, length-append}
+use Rattle.std.proofs.Common.{◌≡◌, ℕ, suc, ◌+◌, ◌<◌, ◌≤◌, List, [], ◌∷◌, ◌++◌, map, length, get_or, take, drop, set, ℤ, ◌<ℤ◌, Some, None, sym, refl, ap, ◌∙◌, subst, ap₂, inl, inr, append_assoc, arith, length-append}
 use Rattle.std.specs.List.{slice_get}
 use Rattle.std.proofs.lemmas.Option.{slice_get-get_or, slice_get_past}
 use Rattle.std.proofs.lemmas.Bool.{cases_lt}
 use lib.Signed.{<ℤ_irrefl}
-use Rattle.std.proofs.lemmas.List.{length-map, get_or-map, append-nil, map-append, length-take-le, length-drop, take_at, drop_at, take-append-drop, set_split, take_all, drop_all, take-append-le, drop-drop}
-use Rattle.records.specs.Rows.{Entry, entry_of, entries}
+use Rattle.std.proofs.lemmas.List.{length-map, get_or-map, append-nil, map-append, length-take-le, take_at, drop_at, take-append-drop, set_split, drop-drop}
+use Rattle.records.specs.Rows.{Entry, entry_of}
 use Rattle.records.specs.declared.row.Row.{Row}
 use Rattle.segments.specs.Segments.{Seg}
-use Rattle.stack.specs.Levels.{Plan, Lvl, row_docs, Step}
+use Rattle.stack.specs.Levels.{Plan, row_docs, Step}
 use Rattle.stack.specs.Overruns.{Deliveries, none_yet, Place, Exists, All, Distinct}
 use Rattle.stack.proofs.Bounds.{crowd_few}
 use Rattle.stack.specs.Writing.{Feeding, row_worth, Blocks, StepsAre, Written, Put}

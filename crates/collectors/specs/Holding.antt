@@ -1,5 +1,5 @@
 -- What a level holds, call by call: from the documents sorted to the deliveries.
-use Rattle.std.specs.Prelude.{◌≡◌, ℕ, zero, suc, ◌+◌, ◌<◌, ◌≤◌, Bool, true, false, ◌&&◌, ◌⊎◌, List, [], ◌∷◌, ◌++◌, length, ℤ, pos, negsuc, Some, None, Option, ◌==◌, refl}
+use Rattle.std.specs.Prelude.{◌≡◌, ℕ, suc, ◌+◌, ◌<◌, ◌≤◌, ◌&&◌, ◌⊎◌, List, [], ◌∷◌, ◌++◌, length, ℤ, pos, negsuc, Some, None, Option, ◌==◌, refl}
 use Rattle.std.proofs.Common.{sym, ap, ap₂, subst, ◌∙◌, inl, inr, arith, length-append}
 use Rattle.std.proofs.Math.Path.{fun_ext}
 use Rattle.std.proofs.lemmas.List.{append-nil, nil_from_length}
@@ -11,15 +11,15 @@ use Rattle.records.specs.declared.fault.Fault.{Fault}
 use Rattle.limits.specs.declared.agg_limits.AggregationLimits.{AggregationLimits}
 use Rattle.segments.specs.Segments.{Seg}
 use Rattle.stack.specs.Levels.{Lvl, range_level, histogram_level, Plan, same_step, row_docs, Step, steps}
-use Rattle.stack.specs.Overruns.{Deliveries, none_yet, added, all_added, More, Crowd, Overrun, Complete, Numbers}
-use Rattle.stack.specs.Calls.{Charged, Stopped, Went, Overran, Inside}
+use Rattle.stack.specs.Overruns.{Deliveries, none_yet, added, all_added, Crowd, Overrun, Complete, Numbers}
+use Rattle.stack.specs.Calls.{Went, Overran, Inside}
 use Rattle.stack.proofs.Chaining.{charged_with, stopped_with}
 use Rattle.stack.proofs.Bounds.{complete-up}
 use Rattle.stack.proofs.Delivering.{more_all_added, all_added_none}
 use Rattle.stack.proofs.Readings.{step_same, step_true}
 use Rattle.stack.proofs.Overrunning.{overrun_more}
-use Rattle.rows.specs.Tables.{Table, Always, Has, Sound, Grew, Prepared, Unprepared}
-use Rattle.collectors.specs.Filing.{Carries, Rows, Sorted, sorted, Stands, Filed, Within, At, Sent, Missed, placed_all, on_top, Standing}
+use Rattle.rows.specs.Tables.{Table, Always, Has, Sound, Prepared, Unprepared}
+use Rattle.collectors.specs.Filing.{Carries, Rows, Sorted, sorted, Filed, Within, At, Sent, Missed, placed_all, on_top, Standing}
 use Rattle.collectors.specs.Naming.{stands_step, lifted, rows-here}
 use Rattle.collectors.specs.Placing.{within_refl, filed-grown}
 use Rattle.collectors.specs.Putting.{rows_inside}

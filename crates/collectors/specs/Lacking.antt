@@ -1,7 +1,7 @@
 -- A row that a table cannot have: with it the rows are too many.
-use Rattle.std.specs.Prelude.{◌≡◌, ℕ, suc, ◌+◌, ◌-◌, ◌^◌, ◌<◌, ◌≤◌, Bool, true, false, cond, ◌⊎◌, List, [], ◌∷◌, ◌++◌, length, ℤ, nat_lt, refl}
-use Rattle.std.proofs.Common.{sym, ap, ap₂, subst, ◌∙◌, append_assoc, inl, inr, arith, length-append}
-use Rattle.std.proofs.lemmas.List.{append-nil, nil_from_length}
+use Rattle.std.specs.Prelude.{◌≡◌, ℕ, ◌+◌, ◌<◌, ◌≤◌, cond, ◌⊎◌, List, [], ◌∷◌, ◌++◌, length, ℤ, nat_lt}
+use Rattle.std.proofs.Common.{sym, ap, subst, ◌∙◌, append_assoc, inl, inr, arith, length-append}
+use Rattle.std.proofs.lemmas.List.{nil_from_length}
 use Rattle.std.proofs.lemmas.Bool.{cases_lt, lt-ltb, le-ltb, cond-true, cond-false}
 use Rattle.records.specs.declared.fault.Fault.{Fault}
 use Rattle.records.specs.declared.fault.Refusal.TheVariants.{TooManyRows, AllowanceExceeded}
@@ -11,8 +11,8 @@ use Rattle.stack.specs.Levels.{Lvl, row_docs, Step}
 use Rattle.stack.specs.Overruns.{Deliveries, Crowd, fault, Overrun, too_many, past_limit}
 use Rattle.stack.proofs.Delivering.{more_refl}
 use Rattle.stack.proofs.Overrunning.{crowd_as}
-use Rattle.rows.specs.Tables.{Table, Always, Has, Sound, Grew, Lacks}
-use Rattle.collectors.specs.Filing.{Carries, Sorted, sorted, Stands, Filed, Within}
+use Rattle.rows.specs.Tables.{Table, Always, Sound, Grew}
+use Rattle.collectors.specs.Filing.{Carries, Sorted, sorted, Filed, Within}
 use Rattle.collectors.specs.Naming.{stands_step, always_step, rows-here, rows-alone}
 use Rattle.collectors.specs.Placing.{docs-grown, stands-old, inside-old}
 

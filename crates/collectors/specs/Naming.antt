@@ -1,17 +1,17 @@
 -- A table's rows as rows of the deliveries, and what is overrun below as overrun here.
-use Rattle.std.specs.Prelude.{◌≡◌, ℕ, suc, ◌+◌, ◌-◌, ◌^◌, ◌<◌, ◌≤◌, cond, ◌⊎◌, List, [], ◌∷◌, ◌++◌, length, ℤ, pos, negsuc, nat_lt, refl}
-use Rattle.std.proofs.Common.{sym, ap, subst, ◌∙◌, inl, inr, arith, length-append}
+use Rattle.std.specs.Prelude.{◌≡◌, ℕ, suc, ◌+◌, ◌^◌, ◌<◌, ◌≤◌, cond, ◌⊎◌, List, [], ◌∷◌, ◌++◌, length, ℤ, pos, negsuc, nat_lt}
+use Rattle.std.proofs.Common.{sym, ap, ◌∙◌, inl, inr, arith, length-append}
 use Rattle.std.proofs.lemmas.List.{append-nil}
-use Rattle.std.proofs.lemmas.Bool.{cases_lt, cases_eq, lt-ltb, le-ltb, cond-true, cond-false}
+use Rattle.std.proofs.lemmas.Bool.{cases_lt, lt-ltb, le-ltb, cond-true, cond-false}
 use Rattle.records.specs.declared.fault.Fault.{Fault}
-use Rattle.records.specs.declared.fault.Refusal.TheVariants.{TooManyRows, AllowanceExceeded, CountOverflow}
+use Rattle.records.specs.declared.fault.Refusal.TheVariants.{CountOverflow}
 use Rattle.segments.specs.Segments.{Seg}
-use Rattle.stack.specs.Levels.{Lvl, range_level, histogram_level, row_docs, Step, readings}
-use Rattle.stack.specs.Overruns.{Deliveries, More, Crowd, fault, Overrun, too_many, past_limit, full, Names}
+use Rattle.stack.specs.Levels.{Lvl, range_level, histogram_level, row_docs, Step}
+use Rattle.stack.specs.Overruns.{Deliveries, More, Crowd, fault, Overrun, full, Names}
 use Rattle.stack.proofs.Overrunning.{crowd_as, crowd-up, all_buckets, with_buckets, overrun_more, overrun_open, overrun-up}
 use Rattle.stack.proofs.Readings.{readings_row}
-use Rattle.rows.specs.Tables.{Table, Always, Fits}
-use Rattle.collectors.specs.Filing.{Sorted, sorted, Stands, Within}
+use Rattle.rows.specs.Tables.{Always, Fits}
+use Rattle.collectors.specs.Filing.{Stands}
 
 -- a row that stands for documents that come first stands for all
 pub stands_step : (l : Lvl) (g : Seg) (D : Deliveries) (b : ℕ) (s : ℤ) (docs : List ℕ) → (rest : List ℕ) × (row_docs l g s (D b) ≡ docs ++ rest) → Stands l docs s → Step l g (D b) s

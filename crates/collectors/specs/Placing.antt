@@ -1,16 +1,16 @@
 -- A table that grew, and a document placed in one of its rows.
-use Rattle.std.specs.Prelude.{◌≡◌, ℕ, suc, ◌+◌, ◌-◌, ◌^◌, ◌<◌, ◌≤◌, Bool, true, false, cond, ◌&&◌, ◌⊎◌, List, [], ◌∷◌, ◌++◌, length, ℤ, pos, negsuc, ◌==◌, ◌≢◌, refl}
+use Rattle.std.specs.Prelude.{◌≡◌, ℕ, ◌<◌, ◌≤◌, ◌&&◌, ◌⊎◌, List, [], ◌∷◌, ◌++◌, length, ℤ, ◌==◌, ◌≢◌, refl}
 use Rattle.std.proofs.Common.{sym, ap, ap₂, subst, ◌∙◌, append_assoc, inl, inr, arith, length-append}
 use Rattle.std.proofs.lemmas.List.{append-nil, nil_from_length}
-use Rattle.std.proofs.lemmas.Bool.{cases_lt, cases_eq, cases_Bool, eq-eqb, ne_eqb, eqb-true, and_from, and_parts, and_left, cond-true, cond-false, both_ways}
+use Rattle.std.proofs.lemmas.Bool.{cases_lt, cases_eq, cases_Bool, eq-eqb, eqb-true, and_from, and_parts, cond-true, cond-false}
 use Rattle.segments.specs.Segments.{Seg}
 use Rattle.stack.specs.Levels.{Lvl, range_level, histogram_level, same_step, row_docs, Step}
 use Rattle.stack.specs.Overruns.{Deliveries, added}
 use Rattle.stack.proofs.Delivering.{added_same, added_other}
 use Rattle.stack.proofs.Readings.{step_same, step_true}
-use Rattle.rows.specs.Tables.{Table, Always, Fits, Is, Has, Sound, Grew, Counted}
-use Rattle.collectors.specs.Filing.{Carries, Rows, Sorted, sorted, placed, Stands, Filed, Within}
-use Rattle.collectors.specs.Naming.{stands_step, always_step, fits_step}
+use Rattle.rows.specs.Tables.{Table, Always, Fits, Has, Sound, Grew, Counted}
+use Rattle.collectors.specs.Filing.{Rows, Sorted, sorted, placed, Stands, Filed, Within}
+use Rattle.collectors.specs.Naming.{stands_step}
 
 -- ---- placing
 pub placed_here : (F : Sorted) (b : ℕ) (s : ℤ) (d : ℕ) (c : ℕ) (t : ℤ) → c ≡ b → t ≡ s → placed F b s d c t ≡ F c t ++ (d ∷ [])

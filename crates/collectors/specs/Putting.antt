@@ -1,5 +1,5 @@
 -- One document more in a row.
-use Rattle.std.specs.Prelude.{◌≡◌, ℕ, ◌+◌, ◌<◌, ◌≤◌, List, [], ◌∷◌, ◌++◌, length, ◌≢◌, refl}
+use Rattle.std.specs.Prelude.{◌≡◌, ℕ, ◌+◌, ◌<◌, [], ◌∷◌, ◌++◌, length, ◌≢◌}
 use Rattle.std.proofs.Common.{sym, ap, subst, ◌∙◌, inl, inr, arith, length-append}
 use Rattle.std.proofs.lemmas.List.{nil_from_length}
 use Rattle.std.proofs.lemmas.Bool.{cases_eq}
@@ -7,7 +7,7 @@ use Rattle.records.specs.declared.fault.Fault.{Fault}
 use Rattle.limits.specs.declared.agg_limits.AggregationLimits.{AggregationLimits}
 use Rattle.segments.specs.Segments.{Seg}
 use Rattle.stack.specs.Levels.{Plan}
-use Rattle.stack.specs.Overruns.{Deliveries, added, all_added}
+use Rattle.stack.specs.Overruns.{Deliveries, added}
 use Rattle.stack.specs.Calls.{Went, Overran, Inside}
 use Rattle.stack.proofs.Delivering.{added_same, added_other}
 use Rattle.collectors.specs.Filing.{Carries, Rows}

@@ -1,16 +1,15 @@
 -- One value of a document: its row, its count, and its way down.
-use Rattle.std.specs.Prelude.{◌≡◌, ℕ, suc, ◌+◌, ◌-◌, ◌^◌, ◌<◌, ◌≤◌, ◌≢◌, ◌⊎◌, List, [], ◌∷◌, ◌++◌, length, ℤ, Some, None, Option, refl}
-use Rattle.std.proofs.Common.{sym, ap, ap₂, subst, ◌∙◌, inl, inr, arith, length-append}
+use Rattle.std.specs.Prelude.{◌≡◌, ℕ, suc, ◌+◌, ◌-◌, ◌^◌, ◌<◌, ◌≤◌, ◌≢◌, [], ◌∷◌, length, ℤ, Some, None, Option, refl}
+use Rattle.std.proofs.Common.{sym, ap, subst, ◌∙◌, arith, length-append}
 use Rattle.records.specs.declared.fault.Fault.{Fault}
-use Rattle.records.specs.declared.fault.Refusal.{Refusal}
 use Rattle.records.specs.declared.fault.Refusal.TheVariants.{CountOverflow, AllowanceExceeded}
 use Rattle.limits.specs.declared.agg_limits.AggregationLimits.{AggregationLimits}
 use Rattle.segments.specs.Segments.{Seg}
-use Rattle.stack.specs.Levels.{Lvl, Plan, row_docs, Step, step_of}
+use Rattle.stack.specs.Levels.{Lvl, Plan, row_docs, step_of}
 use Rattle.stack.specs.Overruns.{Deliveries, added, Crowd, fault, Overrun}
-use Rattle.stack.specs.Calls.{Charged, Stopped, for_rows, Went, Overran}
-use Rattle.stack.proofs.Chaining.{charged_none, charged_trans, charged_with, stopped_after, stopped_with}
-use Rattle.rows.specs.Tables.{Table, Always, Fits, Sound, Grew, Counted, RowFor, Unmade, Unprepared, NoRowFor, unmade, unprepared}
+use Rattle.stack.specs.Calls.{for_rows, Went}
+use Rattle.stack.proofs.Chaining.{charged_trans, charged_with, stopped_after, stopped_with}
+use Rattle.rows.specs.Tables.{Table, Always, Fits, Sound, Counted, RowFor, Unprepared, NoRowFor, unmade, unprepared}
 use Rattle.collectors.specs.Filing.{Carries, Rows, Sorted, sorted, placed, placed_at, Filed, Within, At, Sent, Missed, PutRefused, full_here, refused_below}
 use Rattle.collectors.specs.Naming.{fits_step, always_step, lifted, full_row}
 use Rattle.collectors.specs.Placing.{placed_here, within_refl, within-placed, within_trans, docs-grown, rows_grown, filed-placed, steps-placed, first-placed, inside-placed, none-placed}

@@ -1,20 +1,18 @@
 -- Document after document, value after value.
-use Rattle.std.specs.Prelude.{◌≡◌, ℕ, zero, suc, ◌+◌, ◌<◌, ◌≤◌, Bool, true, false, cond, ◌&&◌, ◌⊎◌, List, [], ◌∷◌, ◌++◌, length, take, drop, replicate, ℤ, pos, negsuc, Some, None, Option, ◌==◌, ◌≢◌, refl}
-use Rattle.std.proofs.Common.{sym, ap, ap₂, subst, ◌∙◌, append_assoc, inl, inr, arith}
+use Rattle.std.specs.Prelude.{◌≡◌, ℕ, suc, ◌+◌, Bool, true, false, cond, ◌&&◌, List, [], ◌∷◌, ◌++◌, take, drop, replicate, ℤ, pos, negsuc, Some, None, Option, ◌==◌, ◌≢◌, refl}
+use Rattle.std.proofs.Common.{sym, ap, subst, ◌∙◌, append_assoc, inl, inr}
 use Rattle.std.proofs.Math.Path.{fun_ext}
 use Rattle.std.specs.List.{slice_get}
 use Rattle.std.proofs.lemmas.List.{append-nil, take-append-drop}
-use Rattle.std.proofs.lemmas.Bool.{cases_Bool, cases_eq, cond-true, cond-false, eq-eqb, ne_eqb, eqb-true, and_left, and_parts, and_from}
+use Rattle.std.proofs.lemmas.Bool.{cases_eq, cond-true, cond-false, eq-eqb, ne_eqb}
 use Rattle.records.specs.declared.fault.Fault.{Fault}
 use Rattle.limits.specs.declared.agg_limits.AggregationLimits.{AggregationLimits}
-use Rattle.segments.specs.Segments.{Seg, values}
+use Rattle.segments.specs.Segments.{Seg}
 use Rattle.segments.proofs.Values.{more, no_more}
-use Rattle.stack.specs.Levels.{Lvl, Plan, column_of, step_of, with_step, steps_of_values, steps, same_step, occurrences, row_docs}
+use Rattle.stack.specs.Levels.{Lvl, Plan, step_of, with_step, steps_of_values, steps, same_step, occurrences, row_docs}
 use Rattle.stack.specs.Overruns.{Deliveries, added, Overrun}
-use Rattle.stack.specs.Calls.{Charged, Stopped, Went, Overran}
 use Rattle.stack.proofs.Chaining.{charged_none, charged_trans, stopped_after, others_same}
-use Rattle.stack.proofs.Readings.{rows_append, step_true}
-use Rattle.rows.specs.Tables.{Table}
+use Rattle.stack.proofs.Readings.{rows_append}
 use Rattle.collectors.specs.Filing.{step_at, Sorted, sorted, placed, placed_at, placed_all, Within, Sent, Missed}
 use Rattle.collectors.specs.Placing.{within_refl, within_trans, within-placed}
 

@@ -1,7 +1,7 @@
 -- The laws of a step: what `least`, `most` and the test for a finite sum answer.
 use Rattle.std.proofs.Common.{◌≡◌, Bool, true, false, cond, refl, ap, ◌∙◌}
 use lib.Ieee.{Float, nan, inf, fin, binary64, add, sub, le, lt, eq, is_nan, of_bits}
-use Rattle.std.specs.Float.{float_is_finite, float_min, float_max}
+use Rattle.std.specs.Float.{float_min, float_max}
 use Rattle.metrics.specs.StatsLaws.{StatsLaws, zero}
 
 nan_least : (x : Float) → float_min x nan ≡ x

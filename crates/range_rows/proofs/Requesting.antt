@@ -1,5 +1,5 @@
 -- Requests that are accepted have a column with a type.
-use Rattle.std.proofs.Common.{◌≡◌, ℕ, ◌-◌, ◌^◌, ◌<◌, List, Some, None, Option, unwrap_or, arith}
+use Rattle.std.proofs.Common.{◌≡◌, ℕ, ◌^◌, ◌<◌, List, Some, None, Option, unwrap_or, arith}
 use Rattle.records.specs.declared.column_type.ColumnType.{ColumnType}
 use Rattle.records.specs.declared.column_type.ColumnType.TheVariants.{U64}
 use Rattle.buckets.specs.Ranges.{range_fault, tiling_of}

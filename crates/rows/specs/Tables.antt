@@ -1,5 +1,5 @@
 -- A level's table: rows numbered from 0, each the row of a bucket of the level above and a step, with a count.
-use Rattle.std.specs.Prelude.{◌≡◌, ℕ, ◌+◌, ◌<◌, ◌≤◌, ◌⊎◌, List, length, ℤ, pos, negsuc, ◌<ℤ◌, Some, Option, ◌≢◌, slice_index}
+use Rattle.std.specs.Prelude.{◌≡◌, ℕ, ◌+◌, ◌<◌, ◌≤◌, ◌⊎◌, List, length, ℤ, pos, negsuc, ◌<ℤ◌, Some, ◌≢◌, slice_index}
 use Rattle.records.specs.declared.fault.Fault.{Fault}
 use Rattle.records.specs.declared.fault.Refusal.TheVariants.{TooManyRows, AllowanceExceeded}
 use Rattle.limits.specs.declared.agg_limits.AggregationLimits.{AggregationLimits}

@@ -1,10 +1,10 @@
 -- One call after another: what is charged adds up, what is held carries on, and a later refusal is one of the whole.
-use Rattle.std.proofs.Common.{◌≡◌, ℕ, ◌+◌, ◌-◌, ◌^◌, ◌<◌, ◌≤◌, ◌≢◌, List, sym, refl, ap, ◌∙◌, subst, inl, inr, arith}
+use Rattle.std.proofs.Common.{◌≡◌, ℕ, ◌+◌, ◌<◌, sym, refl, ◌∙◌, subst, inl, inr, arith}
 use Rattle.std.proofs.lemmas.Bool.{cases_lt}
 use Rattle.records.specs.declared.fault.Fault.{Fault}
 use Rattle.limits.specs.declared.agg_limits.AggregationLimits.{AggregationLimits}
 use Rattle.segments.specs.Segments.{Seg}
-use Rattle.stack.specs.Levels.{Lvl, Plan}
+use Rattle.stack.specs.Levels.{Plan}
 use Rattle.stack.specs.Overruns.{Deliveries, More, Overrun}
 use Rattle.stack.specs.Calls.{Charged, Paid, for_rows, and_one, at_most, Stopped, Went, Overran}
 use Rattle.stack.proofs.Overrunning.{overrun_more}

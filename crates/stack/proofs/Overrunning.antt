@@ -1,11 +1,11 @@
 -- More deliveries never undo an overrun, and what is overrun below is overrun here.
-use Rattle.std.proofs.Common.{◌≡◌, ℕ, zero, suc, ◌+◌, ◌-◌, ◌^◌, ◌<◌, ◌≤◌, min, List, [], ◌∷◌, ◌++◌, map, length, get_or, drop, ℤ, pos, sym, refl, ap, ◌∙◌, subst, ap₂, inl, inr, arith}
+use Rattle.std.proofs.Common.{◌≡◌, ℕ, zero, suc, ◌+◌, ◌<◌, ◌≤◌, List, [], ◌∷◌, ◌++◌, map, length, get_or, drop, pos, sym, refl, ap, ◌∙◌, subst, ap₂, arith}
 use Rattle.std.proofs.lemmas.List.{length-append, length-map}
 use Rattle.records.specs.declared.fault.Fault.{Fault}
 use Rattle.records.specs.declared.fault.Refusal.TheVariants.{TooManyRows, AllowanceExceeded, CountOverflow}
 use Rattle.segments.specs.Segments.{Seg}
-use Rattle.stack.specs.Levels.{Lvl, row_docs, Step, There, readings}
-use Rattle.stack.specs.Overruns.{Deliveries, More, Place, Exists, All, Distinct, Crowd, fault, depth_of, limit_of, TooMany, PastLimit, Full, Overrun, too_many, past_limit, full, Names}
+use Rattle.stack.specs.Levels.{Lvl, There, readings}
+use Rattle.stack.specs.Overruns.{Deliveries, More, Place, Exists, All, Distinct, Crowd, fault, depth_of, limit_of, Overrun, too_many, past_limit, full, Names}
 use Rattle.stack.proofs.Delivering.{more_refl}
 use Rattle.stack.proofs.Readings.{readings-append, readings_down, there_stays}
 

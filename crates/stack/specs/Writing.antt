@@ -1,5 +1,5 @@
 -- The rows below a bucket, in path order.
-use Rattle.std.specs.Prelude.{◌≡◌, ℕ, ◌+◌, ◌<◌, ◌≤◌, List, [], ◌∷◌, ◌++◌, length, take, drop, ℤ, ◌<ℤ◌, Some, None, Option, slice_index_or}
+use Rattle.std.specs.Prelude.{◌≡◌, ℕ, ◌+◌, ◌<◌, List, [], ◌∷◌, ◌++◌, length, take, drop, ℤ, ◌<ℤ◌, Some, None, Option, slice_index_or}
 use Rattle.records.specs.Paths.{steps_of}
 use Rattle.records.specs.Rows.{Entry, entries}
 use Rattle.records.specs.declared.column_type.ColumnType.{ColumnType}
@@ -7,7 +7,7 @@ use Rattle.records.specs.declared.path.Path.{Path}
 use Rattle.records.specs.declared.row.Row.{Row}
 use Rattle.metrics.specs.Tallies.{fed_all}
 use Rattle.segments.specs.Segments.{Seg}
-use Rattle.stack.specs.Levels.{Lvl, Plan, row_docs, Step, values_of}
+use Rattle.stack.specs.Levels.{Lvl, row_docs, Step, values_of}
 
 -- the steps of the path above, none at the top
 abbrev pub above_steps : Option Path → List ℤ

@@ -1,5 +1,5 @@
 -- Each document's values come behind those of the documents before it.
-use Rattle.std.proofs.Common.{get_or, take, sym, ap, ◌∙◌}
+use Rattle.std.proofs.Common.{ap, ◌∙◌}
 use Rattle.std.proofs.lemmas.List.{take_all}
 use Rattle.metrics.specs.Tallies.{fed_all}
 use Rattle.stack.specs.Levels.{values_of}

@@ -1,5 +1,5 @@
 -- Each turn delivers one partition; a refused one refuses the whole.
-use Rattle.std.proofs.Common.{◌≡◌, ℕ, length, subst}
+use Rattle.std.proofs.Common.{ℕ, length, subst}
 use Rattle.std.proofs.lemmas.Result.{err_from_is_err_and}
 use Rattle.stack.specs.Overruns.{all_added}
 use Rattle.stack.specs.Calls.{Inside, Overran}

@@ -1,5 +1,5 @@
 -- The value's row is found or made, counted up, and the document sent on.
-use Rattle.std.proofs.Common.{◌≡◌, ℕ, ◌+◌, length, sym, refl, ap, ◌∙◌, subst}
+use Rattle.std.proofs.Common.{length}
 use Rattle.std.proofs.lemmas.Result.{err_from_is_err_and}
 use Rattle.collectors.specs.Sending.{place-sent, put-missed, row-missed}
 use Rattle.collectors.proofs.bucket_collector.place.Goals as goal

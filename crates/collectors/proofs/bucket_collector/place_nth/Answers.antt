@@ -1,4 +1,4 @@
-use Rattle.std.proofs.Common.{◌≡◌, ℕ, ◌+◌, ◌<◌, length, Option, sym, subst}
+use Rattle.std.proofs.Common.{ℕ, ◌+◌, ◌<◌, length, Option, subst}
 use Rattle.std.proofs.lemmas.Result.{err_from_is_err_and}
 use Rattle.stack.specs.Levels.{step_of}
 use Rattle.collectors.specs.Filing.{At, Sent, Missed, placed_at, step_at}

@@ -1,5 +1,5 @@
 -- The row's count and its documents grow together.
-use Rattle.std.proofs.Common.{◌≡◌, ℕ, [], ◌∷◌, length, sym}
+use Rattle.std.proofs.Common.{[], ◌∷◌, length}
 use Rattle.std.proofs.lemmas.Result.{err_from_is_err_and}
 use Rattle.stack.specs.Overruns.{added}
 use Rattle.collectors.specs.Filing.{refused_below}

@@ -1,10 +1,10 @@
 -- Each turn places one value more.
-use Rattle.std.proofs.Common.{◌≡◌, ℕ, ◌+◌, ◌<◌, ◌≤◌, List, length, take, ℤ, Some, sym, refl, ap, ◌∙◌, subst, arith}
+use Rattle.std.proofs.Common.{◌≡◌, ℕ, ◌+◌, ◌<◌, List, length, take, ℤ, sym, refl, ap, ◌∙◌, subst, arith}
 use Rattle.std.specs.List.{slice_get}
 use Rattle.std.proofs.lemmas.List.{take_all}
 use Rattle.std.proofs.lemmas.Result.{err_from_is_err_and}
 use Rattle.segments.specs.Segments.{values}
-use Rattle.stack.specs.Levels.{Lvl, column_of, step_of, steps_of_values, steps}
+use Rattle.stack.specs.Levels.{step_of, steps_of_values, steps}
 use Rattle.collectors.specs.Filing.{Sorted, At, Sent, Within, Missed, placed_at, placed_all, step_at}
 use Rattle.collectors.specs.Spreading.{sent_none, sent_then, sent_missed, nth_more, within-part}
 use Rattle.collectors.proofs.bucket_collector.spread.Goals as goal

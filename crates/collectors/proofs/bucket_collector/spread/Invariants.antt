@@ -1,9 +1,8 @@
 -- The values before i are placed.
 use Rattle.std.proofs.Common.{◌≡◌, ◌+◌, ◌<◌, take}
 use Rattle.segments.specs.Segments.{values}
-use Rattle.stack.specs.Levels.{column_of, step_of, steps_of_values}
+use Rattle.stack.specs.Levels.{step_of, steps_of_values}
 use Rattle.collectors.specs.Filing.{At, Sent, placed_all}
-use Rattle.collectors.specs.Spreading.{sent_then}
 use Rattle.collectors.proofs.bucket_collector.spread.Given as goal
 
 abbrev pub invariant-loop-i : goal.invariant-loop-i

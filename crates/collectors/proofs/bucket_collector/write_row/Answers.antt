@@ -1,10 +1,9 @@
 -- The row itself, then the rows below it.
-use Rattle.std.proofs.Common.{◌≡◌, ℕ, suc, ◌+◌, ◌-◌, ◌^◌, ◌<◌, ◌≤◌, min, List, [], ◌∷◌, ◌++◌, length, set, ℤ, Some, sym, refl, ap, ◌∙◌, subst, ap₂, arith, length-append, w64, SFits, rules}
+use Rattle.std.proofs.Common.{◌≡◌, ℕ, ◌+◌, ◌<◌, ◌≤◌, List, [], ◌∷◌, ◌++◌, length, ℤ, sym, ap, ◌∙◌, subst, arith, length-append, w64, SFits, rules}
 use Rattle.std.proofs.lemmas.Int.{to_z-of_z}
 use Rattle.records.specs.Paths.{steps_of}
 use Rattle.records.specs.Rows.{Entry, entry_of}
 use Rattle.records.specs.declared.row.Row.{Row}
-use Rattle.stack.specs.Overruns.{Deliveries}
 use Rattle.stack.specs.Writing.{above_steps, Feeding, row_worth, Written, Put}
 use Rattle.collectors.proofs.Writing.{put_then, put_one, put_size}
 use Rattle.collectors.proofs.bucket_collector.write_row.Goals as goal

@@ -1,5 +1,5 @@
 -- A pair that finds room waits; otherwise all is handed over, and the emptied cache has room.
-use Rattle.std.proofs.Common.{◌≡◌, ℕ, Bool, true, false, not, [], ◌∷◌, length, sym, refl, ap, ◌∙◌, subst}
+use Rattle.std.proofs.Common.{◌≡◌, ℕ, true, not, [], ◌∷◌, length, sym, refl, ap, ◌∙◌, subst}
 use Rattle.std.proofs.lemmas.Result.{err_from_is_err_and}
 use Rattle.stack.specs.Overruns.{Deliveries, added}
 use Rattle.stack.specs.Calls.{Inside}

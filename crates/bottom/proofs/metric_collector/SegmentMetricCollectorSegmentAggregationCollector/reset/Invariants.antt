@@ -1,5 +1,5 @@
 -- The slots before `at` are empty.
-use Rattle.std.proofs.Common.{◌≡◌, ℕ, ◌<◌, length, get_or}
+use Rattle.std.proofs.Common.{◌≡◌, ℕ, ◌<◌, get_or}
 use Rattle.bottom.proofs.metric_collector.SegmentMetricCollectorSegmentAggregationCollector.reset.Given as goal
 
 abbrev pub invariant-loop-at : goal.invariant-loop-at

@@ -1,4 +1,4 @@
-use Rattle.std.proofs.Common.{ℕ, replicate, refl, arith}
+use Rattle.std.proofs.Common.{ℕ, replicate, arith}
 use Rattle.std.proofs.lemmas.List.{length-replicate}
 use Rattle.caches.specs.Groups.{none_total, none_there}
 use Rattle.caches.proofs.partitions.Partitions.new.Goals as goal

@@ -1,11 +1,11 @@
 -- Each turn collects one document more; a full cache is eased at the end.
-use Rattle.std.proofs.Common.{◌≡◌, ℕ, ◌+◌, ◌<◌, ◌≤◌, [], ◌∷◌, length, get_or, take, sym, refl, ap, ◌∙◌, subst, arith}
+use Rattle.std.proofs.Common.{ℕ, ◌+◌, ◌<◌, [], ◌∷◌, length, get_or, take, sym, ap, ◌∙◌, subst}
 use Rattle.std.proofs.lemmas.List.{take_more, take_all}
 use Rattle.std.proofs.lemmas.Result.{err_from_is_err_and}
 use Rattle.stack.specs.Overruns.{Deliveries, added, More}
-use Rattle.stack.specs.Calls.{Went, Overran}
+use Rattle.stack.specs.Calls.{Overran}
 use Rattle.stack.proofs.Chaining.{went_none, went_then, went_overran}
-use Rattle.stack.proofs.Delivering.{added_nil, added_twice, more_added_take, more_refl}
+use Rattle.stack.proofs.Delivering.{added_nil, added_twice, more_added_take}
 use Rattle.collectors.specs.Filing.{At, sorted, on_top}
 use Rattle.collectors.specs.Holding.{sent_went, missed_overran, carried_went, carried_overran}
 use Rattle.collectors.proofs.bucket_collector.SegmentBucketCollectorSegmentAggregationCollector.collect.Goals as goal

@@ -3,7 +3,6 @@ use Rattle.std.proofs.Common.{◌+◌, ◌<◌, take}
 use Rattle.stack.specs.Overruns.{added}
 use Rattle.stack.specs.Calls.{Went}
 use Rattle.collectors.specs.Filing.{At, sorted, on_top}
-use Rattle.collectors.specs.Holding.{sent_went}
 use Rattle.collectors.proofs.bucket_collector.SegmentBucketCollectorSegmentAggregationCollector.collect.Given as goal
 
 abbrev pub invariant-loop-doc : goal.invariant-loop-doc

@@ -1,5 +1,5 @@
 -- The rows here are made, and then those below every row.
-use Rattle.std.proofs.Common.{◌≡◌, ℕ, ◌+◌, ◌<◌, ◌≤◌, length, sym, refl, ap, ◌∙◌, subst, arith}
+use Rattle.std.proofs.Common.{ℕ, ◌+◌, ◌≤◌, length, refl, ◌∙◌, subst, arith}
 use Rattle.std.proofs.lemmas.Result.{err_from_is_err_and}
 use Rattle.segments.specs.Segments.{Seg}
 use Rattle.collectors.specs.Holding.{prepared_went, unprepared_overran, below_went, below_overran, carried_by, overran_by}

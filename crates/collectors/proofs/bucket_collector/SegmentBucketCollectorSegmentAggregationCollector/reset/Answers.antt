@@ -1,5 +1,5 @@
 -- An empty table over an emptied cache.
-use Rattle.std.proofs.Common.{◌≡◌, ℕ, suc, ◌+◌, ◌-◌, ◌^◌, ◌<◌, ◌≤◌, min, length, None, sym, refl, ap, ◌∙◌, subst, ap₂, arith}
+use Rattle.std.proofs.Common.{◌≡◌, ℕ, ◌+◌, ◌-◌, ◌^◌, min, None, sym, subst, ap₂, arith}
 use Rattle.stack.specs.Overruns.{none_yet}
 use Rattle.collectors.specs.Filing.{on_top}
 use Rattle.collectors.specs.Carrying.{waits_none}

@@ -1,12 +1,11 @@
 -- Each turn writes one row with the rows below it; at the end all that are listed are written.
-use Rattle.std.proofs.Common.{◌≡◌, ℕ, suc, ◌+◌, ◌-◌, ◌^◌, ◌<◌, ◌≤◌, List, [], ◌∷◌, ◌++◌, map, length, get_or, take, ℤ, None, sym, refl, ap, ◌∙◌, subst, ap₂, arith, length-append}
+use Rattle.std.proofs.Common.{◌≡◌, ℕ, suc, ◌<◌, List, [], ◌∷◌, ◌++◌, map, get_or, take, None, sym, refl, ap, ◌∙◌, subst, arith, length-append}
 use Rattle.std.proofs.lemmas.List.{take_all}
 use Rattle.records.specs.Rows.{Entry}
 use Rattle.segments.specs.Segments.{Seg}
 use Rattle.segments.proofs.Values.{more}
 use Rattle.stack.specs.Levels.{row_docs, Step}
-use Rattle.stack.specs.Overruns.{Deliveries}
-use Rattle.stack.specs.Writing.{above_steps, Feeding, row_worth, Put}
+use Rattle.stack.specs.Writing.{above_steps, Feeding, row_worth}
 use Rattle.stack.proofs.Delivering.{all_added_none}
 use Rattle.collectors.specs.Filing.{Carries}
 use Rattle.collectors.specs.Carrying.{waits_none}
