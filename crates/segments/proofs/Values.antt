@@ -1,8 +1,8 @@
 -- What is read of a segment's lists, and that unknown columns and documents read as none.
-use Rattle.std.proofs.Common.{◌≡◌, ℕ, zero, suc, ◌+◌, ◌-◌, ◌*◌, ◌<◌, ◌≤◌, Bool, true, false, cond, ltb, leb, List, [], ◌∷◌, ◌++◌, length, get_or, take, drop, is_some, Some, None, Option, sym, refl, ap, ◌∙◌, inl, inr, le_of_suc-le-suc, not-suc-le-zero, add_assoc, suc-add, zero-add, arith, ltb-false, ltb-true, le-ltb, lt-ltb, le-leb}
+use Rattle.std.proofs.Common.{◌≡◌, ℕ, zero, suc, ◌+◌, ◌-◌, ◌*◌, ◌<◌, ◌≤◌, Bool, true, false, ◌⊎◌, cond, ltb, leb, List, [], ◌∷◌, ◌++◌, length, min, get_or, take, drop, is_some, Some, None, Option, sym, refl, ap, ◌∙◌, inl, inr, le_of_suc-le-suc, not-suc-le-zero, add_assoc, suc-add, zero-add, arith, ltb-false, ltb-true, le-ltb, lt-ltb, le-leb}
 use borrow.Author.Tests.{lt-leb}
-use Rattle.std.specs.List.{slice_get}
-use Rattle.std.specs.Option.{option_to_list}
+use Rattle.std.specs.List.{slice_get, PartBy}
+use Rattle.std.specs.Option.{option_to_list, unwrap_or}
 use Rattle.std.proofs.lemmas.List.{take_all, take_more, drop_all, drop_more, length-take, length-drop}
 use Rattle.std.proofs.lemmas.Option.{slice_get-get_or, slice_get_past}
 use Rattle.std.proofs.lemmas.Bool.{cond-true, cond-false, cases_lt}
@@ -98,24 +98,31 @@ pub misses : (offsets : List ℕ) (i : ℕ) (xs : List ℕ) → length offsets �
 misses offsets i xs h =
     ap (λ e. between (slice_get offsets i) e xs) (slice_get_past offsets (i + 1) h) ∙ no_end (slice_get offsets i) xs
 
-there : (offsets : List ℕ) (i : ℕ) (xs : List ℕ) → i + 1 < length offsets → between (slice_get offsets i) (slice_get offsets (i + 1)) xs ≡ between (Some (get_or offsets i 0)) (Some (get_or offsets (i + 1) 0)) xs
-there offsets i xs h =
-    let s : slice_get offsets i ≡ Some (get_or offsets i 0) = slice_get-get_or offsets i 0 (omega arith) in
-    let e : slice_get offsets (i + 1) ≡ Some (get_or offsets (i + 1) 0) = slice_get-get_or offsets (i + 1) 0 h in
+-- A part of length 2 of the offsets holds a document's own and the next.
+pub pair : (own offsets : List ℕ) (i : ℕ) (xs : List ℕ) → own ≡ take 2 (drop i offsets) → 2 ≤ length own → between (Some (get_or own 0 0)) (Some (get_or own 1 0)) xs ≡ between (slice_get offsets i) (slice_get offsets (i + 1)) xs
+pair own offsets i xs o h =
+    let at : (j k : ℕ) → j < 2 → i + j ≡ k → Some (get_or own j 0) ≡ slice_get offsets k =
+    λ j k l e. sym (slice_get-get_or own j 0 (omega arith)) ∙ ap (λ m. slice_get m j) o ∙ nth_part i 2 offsets j l ∙ ap (slice_get offsets) e in
+    let s = at 0 i (omega arith) (omega arith) in
+    let e = at 1 (i + 1) (omega arith) refl in
     λ j. between (s j) (e j) xs
 
-pub falls : (offsets : List ℕ) (i : ℕ) (xs : List ℕ) → i + 1 < length offsets → get_or offsets (i + 1) 0 < get_or offsets i 0 → between (slice_get offsets i) (slice_get offsets (i + 1)) xs ≡ []
-falls offsets i xs h f =
-    let s = get_or offsets i 0 in
-    let e = get_or offsets (i + 1) 0 in
-    let z : e - s ≡ 0 = omega arith in
-    there offsets i xs h ∙ either_none (leb e (length xs)) (take (e - s) (drop s xs)) (ap (λ n. take n (drop s xs)) z)
+-- A part of another length is a shorter one, so there is no next offset.
+pub alone : (own offsets : List ℕ) (i : ℕ) (xs : List ℕ) → own ≡ take 2 (drop i offsets) → (length own < 2) ⊎ (3 ≤ length own) → between (slice_get offsets i) (slice_get offsets (i + 1)) xs ≡ []
+alone own offsets i xs o h =
+    let l : length own ≡ min 2 (length offsets - i) = ap length o ∙ simp (length-take, length-drop) refl in
+    misses offsets i xs (omega (arith, h))
 
-pub passes : (offsets : List ℕ) (i : ℕ) (xs : List ℕ) → i + 1 < length offsets → length xs < get_or offsets (i + 1) 0 → between (slice_get offsets i) (slice_get offsets (i + 1)) xs ≡ []
-passes offsets i xs h p = there offsets i xs h ∙ cond-false _ _ _ (lt-leb (get_or offsets (i + 1) 0) (length xs) p)
-
-pub lies : (offsets : List ℕ) (i : ℕ) (xs : List ℕ) → i + 1 < length offsets → get_or offsets (i + 1) 0 ≤ length xs → between (slice_get offsets i) (slice_get offsets (i + 1)) xs ≡ take (get_or offsets (i + 1) 0 - get_or offsets i 0) (drop (get_or offsets i 0) xs)
-lies offsets i xs h p = there offsets i xs h ∙ cond-true _ _ _ (le-leb (get_or offsets (i + 1) 0) (length xs) p)
+-- What `get` lends between two offsets, or else the empty part, is what lies between them.
+pub lent : {R : Type 0} (now : R → List ℕ) (xs : List ℕ) (s e : ℕ) (r : Option R) (d : R) → PartBy now xs s e r → now d ≡ [] → now (unwrap_or r d) ≡ between (Some s) (Some e) xs
+lent now xs s e None d p n =
+    n ∙ sym (elim p.0 [
+      | inl f ↦
+          (let z : e - s ≡ 0 = omega arith in
+          either_none (leb e (length xs)) (take (e - s) (drop s xs)) (ap (λ k. take k (drop s xs)) z))
+      | inr k ↦ cond-false _ _ _ (lt-leb e (length xs) k)
+    ])
+lent now xs s e (Some x) d p n = p.0.2 ∙ sym (cond-true _ _ _ (le-leb e (length xs) p.0.1))
 
 -- Where an index reads a value, it is the list's there; where it reads none, it is past the end.
 read_value : (xs : List ℕ) (i v : ℕ) (b : Bool) → ltb i (length xs) ≡ b → slice_get xs i ≡ Some v → (i < length xs) × (get_or xs i 0 ≡ v)

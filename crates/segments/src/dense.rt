@@ -4,7 +4,7 @@ ghost use Rattle.std.specs.List.{slice_get};
 ghost use Rattle.std.specs.Option.{option_to_list};
 ghost use Rattle.segments.specs.Segments.{values, dense};
 
-use crate::segment::{Segment, cut, read, type_of};
+use crate::segment::{Segment, cut};
 use records::column_type::ColumnType;
 
 /// A segment with one value for each document and column: the value of document d in column c stands at
@@ -21,12 +21,11 @@ impl<'a> DenseSegment<'a> {
     fn column(&self, column: u32) -> &'a [u64]
         ensures { (doc : ℕ) → option_to_list (slice_get result.now doc) ≡ values (dense self.now.num_docs self.now.column_types.now self.now.values.now) column doc }
     {
-        let all = self.values;
         let width = self.num_docs as usize;
         if column as usize >= self.column_types.len() {
-            return &all[0..0];
+            return &[];
         }
-        cut(all, column as usize * width, width)
+        cut(self.values, column as usize * width, width)
     }
 
     // The part of the slice that holds the values of a document: at most one.
@@ -45,7 +44,7 @@ impl Segment for DenseSegment<'_> {
     }
 
     fn column_type(&self, column: u32) -> Option<ColumnType> {
-        type_of(self.column_types, column)
+        self.column_types.get(column as usize).copied()
     }
 
     fn num_values(&self, column: u32, doc: u32) -> usize {
@@ -53,6 +52,6 @@ impl Segment for DenseSegment<'_> {
     }
 
     fn value_at(&self, column: u32, doc: u32, index: usize) -> Option<u64> {
-        read(self.part(column, doc), index)
+        self.part(column, doc).get(index).copied()
     }
 }

@@ -3,7 +3,7 @@ ghost use Rattle.std.specs.Prelude.{◌≡◌, ℕ, ◌+◌};
 ghost use Rattle.std.specs.List.{slice_get};
 ghost use Rattle.segments.specs.Segments.{values, between, by_offsets};
 
-use crate::segment::{Segment, cut, read, type_of};
+use crate::segment::{Segment, cut};
 use records::column_type::ColumnType;
 
 /// A segment with any number of values for each document and column. Column c has one offset for each document and one
@@ -22,33 +22,21 @@ impl<'a> OffsetSegment<'a> {
     fn column(&self, column: u32) -> &'a [u32]
         ensures { (doc : ℕ) → between (slice_get result.now doc) (slice_get result.now (doc + 1)) self.now.values.now ≡ values (by_offsets self.now.num_docs self.now.column_types.now self.now.offsets.now self.now.values.now) column doc }
     {
-        let all = self.offsets;
         let width = self.num_docs as usize + 1;
         if column as usize >= self.column_types.len() {
-            return &all[0..0];
+            return &[];
         }
-        cut(all, column as usize * width, width)
+        cut(self.offsets, column as usize * width, width)
     }
 
     // The part of the slice that holds the values of a document.
     fn part(&self, column: u32, doc: u32) -> &'a [u64]
         ensures { result.now ≡ values (by_offsets self.now.num_docs self.now.column_types.now self.now.offsets.now self.now.values.now) column doc }
     {
-        let all = self.values;
-        let offsets = self.column(column);
-        let at = doc as usize;
-        if at + 1 >= offsets.len() {
-            return &all[0..0];
-        }
-        let start = offsets[at] as usize;
-        let end = offsets[at + 1] as usize;
-        if start > end {
-            return &all[0..0];
-        }
-        if end > all.len() {
-            return &all[0..0];
-        }
-        &all[start..end]
+        let &[start, end] = cut(self.column(column), doc as usize, 2) else {
+            return &[];
+        };
+        self.values.get(start as usize..end as usize).unwrap_or(&[])
     }
 }
 
@@ -60,7 +48,7 @@ impl Segment for OffsetSegment<'_> {
     }
 
     fn column_type(&self, column: u32) -> Option<ColumnType> {
-        type_of(self.column_types, column)
+        self.column_types.get(column as usize).copied()
     }
 
     fn num_values(&self, column: u32, doc: u32) -> usize {
@@ -68,6 +56,6 @@ impl Segment for OffsetSegment<'_> {
     }
 
     fn value_at(&self, column: u32, doc: u32, index: usize) -> Option<u64> {
-        read(self.part(column, doc), index)
+        self.part(column, doc).get(index).copied()
     }
 }

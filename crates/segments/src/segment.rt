@@ -30,45 +30,15 @@ pub trait Segment: Copy {
         ensures { result ≡ slice_get (values (means self.now) column doc) index };
 }
 
-/// The value at an index of a slice; none past its end.
-pub(crate) fn read(values: &[u64], index: usize) -> Option<u64>
-    ensures { result ≡ slice_get «values».now index }
-{
-    if index < values.len() {
-        Some(values[index])
-    } else {
-        None
-    }
-}
-
-/// The type of a column; none past the last.
-pub(crate) fn type_of(types: &[ColumnType], column: u32) -> Option<ColumnType>
-    ensures { result ≡ slice_get types.now column }
-{
-    let at = column as usize;
-    if at < types.len() {
-        Some(types[at])
-    } else {
-        None
-    }
-}
-
 /// The part of a slice from a place on, of the given length, or shorter where the slice ends before.
 pub(crate) fn cut<T>(all: &[T], start: usize, len: usize) -> &[T]
     ensures { result.now ≡ take len (drop start all.now) }
 {
-    if start >= all.len() {
-        return &all[0..0];
-    }
-    if len < all.len() - start {
-        return &all[start..start + len];
-    }
-    &all[start..all.len()]
+    let rest = all.get(start..).unwrap_or(&[]);
+    rest.get(..len).unwrap_or(rest)
 }
 
 /// Unknown columns and documents have no values, and reading by index from 0 reads a whole list.
-pub fn reading_stands() -> u8
+pub fn reading_stands()
     ensures { Reading }
-{
-    0
-}
+{}

@@ -1,20 +1,18 @@
 -- Offsets that are missing, fall or pass the end give no value; any others the part between them.
-use Rattle.std.proofs.Common.{sym, ◌∙◌}
-use Rattle.segments.proofs.Values.{misses, falls, passes, lies}
+use Rattle.std.proofs.Common.{◌<◌, ◌≤◌, ◌⊎◌, length, inl, inr, sym, refl, ap, ◌∙◌, rules}
+use Rattle.segments.proofs.Values.{alone, pair, lent}
+use Rattle.segments.proofs.offset.OffsetSegment.part.Goals.{in_default-via-then-cut-lt2, in_default-via-else-cut-lt2+else-this-lt3}
 use Rattle.segments.proofs.offset.OffsetSegment.part.Goals as goal
-
-pub returns-then-at-offsets : goal.returns-then-at-offsets
-returns-then-at-offsets c =
-    sym (misses c.column-offsets.result.now c.args.doc _ c.if-at-offsets.true) ∙ c.column-offsets.ensures c.args.doc
-
-pub returns-then-start-end : goal.returns-then-start-end
-returns-then-start-end c =
-    sym (falls c.column-offsets.result.now c.args.doc _ c.if-at-offsets.false c.if-start-end.true) ∙ c.column-offsets.ensures c.args.doc
-
-pub returns-then-end-all : goal.returns-then-end-all
-returns-then-end-all c =
-    sym (passes c.column-offsets.result.now c.args.doc _ c.if-at-offsets.false c.if-end-all.true) ∙ c.column-offsets.ensures c.args.doc
 
 pub returns : goal.returns
 returns c =
-    sym (lies c.column-offsets.result.now c.args.doc _ c.if-at-offsets.false c.if-end-all.false) ∙ c.column-offsets.ensures c.args.doc
+    ap (λ b. b.now) c.unwrap_or.ensures ∙ lent (λ b. b.now) _ _ _ c.get.result _ c.get.ensures.lookup refl ∙ pair _ c.column.result.now c.args.doc _ c.cut.ensures c.in-len2.len_at_least ∙ c.column.ensures c.args.doc
+
+pub returns-in_default : goal.returns-in_default
+returns-in_default c =
+    let other : (length c.cut.result.now < 2) ⊎ (3 ≤ length c.cut.result.now) =
+    elim c.in_default.branch [
+      | in_default-via-then-cut-lt2 w ↦ inl (search rules)
+      | in_default-via-else-cut-lt2+else-this-lt3 w ↦ inr (search rules)
+    ] in
+    sym (alone _ c.column.result.now c.args.doc _ c.cut.ensures other) ∙ c.column.ensures c.args.doc
