@@ -36,6 +36,7 @@ impl<'a> DenseSegment<'a> {
     }
 }
 
+// The same calls as of the offset segment: a trait of segments in slices with one impl for both would be longer than they.
 impl Segment for DenseSegment<'_> {
     ghost means = { λ s. dense s.num_docs s.column_types.now s.values.now };
 
