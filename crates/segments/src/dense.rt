@@ -2,7 +2,7 @@
 ghost use Rattle.std.specs.Prelude.{◌≡◌, ℕ};
 ghost use Rattle.std.specs.List.{slice_get};
 ghost use Rattle.std.specs.Option.{option_to_list};
-ghost use Rattle.segments.specs.Segments.{values, dense};
+ghost use Rattle.segments.specs.Segments.{values, of_dense};
 
 use crate::segment::{Segment, cut};
 use records::column_type::ColumnType;
@@ -19,7 +19,7 @@ pub struct DenseSegment<'a> {
 impl<'a> DenseSegment<'a> {
     // The values of a column, one for each document from the first, as far as the slice goes.
     fn column(&self, column: u32) -> &'a [u64]
-        ensures { (doc : ℕ) → option_to_list (slice_get result.now doc) ≡ values (dense self.now.num_docs self.now.column_types.now self.now.values.now) column doc }
+        ensures { (doc : ℕ) → option_to_list (slice_get result.now doc) ≡ values (of_dense self.now) column doc }
     {
         let width = self.num_docs as usize;
         if column as usize >= self.column_types.len() {
@@ -30,7 +30,7 @@ impl<'a> DenseSegment<'a> {
 
     // The part of the slice that holds the values of a document: at most one.
     fn part(&self, column: u32, doc: u32) -> &'a [u64]
-        ensures { result.now ≡ values (dense self.now.num_docs self.now.column_types.now self.now.values.now) column doc }
+        ensures { result.now ≡ values (of_dense self.now) column doc }
     {
         cut(self.column(column), doc as usize, 1)
     }
@@ -38,7 +38,7 @@ impl<'a> DenseSegment<'a> {
 
 // The same calls as of the offset segment: a trait of segments in slices with one impl for both would be longer than they.
 impl Segment for DenseSegment<'_> {
-    ghost means = { λ s. dense s.num_docs s.column_types.now s.values.now };
+    ghost means = { of_dense };
 
     fn num_docs(&self) -> u32 {
         self.num_docs

@@ -1,7 +1,7 @@
 //! The offset segment.
 ghost use Rattle.std.specs.Prelude.{◌≡◌, ℕ, ◌+◌};
 ghost use Rattle.std.specs.List.{slice_get};
-ghost use Rattle.segments.specs.Segments.{values, between, by_offsets};
+ghost use Rattle.segments.specs.Segments.{values, between, of_offset};
 
 use crate::segment::{Segment, cut};
 use records::column_type::ColumnType;
@@ -20,7 +20,7 @@ pub struct OffsetSegment<'a> {
 impl<'a> OffsetSegment<'a> {
     // The offsets of a column, as far as the slice goes.
     fn column(&self, column: u32) -> &'a [u32]
-        ensures { (doc : ℕ) → between (slice_get result.now doc) (slice_get result.now (doc + 1)) self.now.values.now ≡ values (by_offsets self.now.num_docs self.now.column_types.now self.now.offsets.now self.now.values.now) column doc }
+        ensures { (doc : ℕ) → between (slice_get result.now doc) (slice_get result.now (doc + 1)) self.now.values.now ≡ values (of_offset self.now) column doc }
     {
         let width = self.num_docs as usize + 1;
         if column as usize >= self.column_types.len() {
@@ -31,7 +31,7 @@ impl<'a> OffsetSegment<'a> {
 
     // The part of the slice that holds the values of a document.
     fn part(&self, column: u32, doc: u32) -> &'a [u64]
-        ensures { result.now ≡ values (by_offsets self.now.num_docs self.now.column_types.now self.now.offsets.now self.now.values.now) column doc }
+        ensures { result.now ≡ values (of_offset self.now) column doc }
     {
         let &[start, end] = cut(self.column(column), doc as usize, 2) else {
             return &[];
@@ -41,7 +41,7 @@ impl<'a> OffsetSegment<'a> {
 }
 
 impl Segment for OffsetSegment<'_> {
-    ghost means = { λ s. by_offsets s.num_docs s.column_types.now s.offsets.now s.values.now };
+    ghost means = { of_offset };
 
     fn num_docs(&self) -> u32 {
         self.num_docs
