@@ -20,11 +20,7 @@ impl AggregationLimits {
         ensures { MatchResult result (λ _. Charged self.old n self.new) (λ f. (f ≡ over_allowance level) × Refused self.old n self.new) }
     {
         let Self { limit, used } = *self;
-        let over = Fault {
-            refusal: Refusal::AllowanceExceeded,
-            level,
-            place: 0,
-        };
+        let over = Refusal::AllowanceExceeded.at(level);
         let sum = used.checked_add(n).ok_or(over)?;
         self.used = sum;
         if sum > limit {
