@@ -2,7 +2,7 @@
 use Rattle.std.proofs.Common.{◌≡◌, ℕ, zero, suc, ◌+◌, ◌-◌, ◌*◌, ◌<◌, ◌≤◌, Bool, true, false, ◌⊎◌, cond, leb, List, [], ◌∷◌, ◌++◌, length, min, get_or, take, drop, is_some, Some, None, Option, sym, refl, ap, ◌∙◌, inl, inr, le_of_suc-le-suc, not-suc-le-zero, add_assoc, suc-add, zero-add, arith, le-ltb, lt-ltb, le-leb}
 use borrow.Author.Tests.{lt-leb}
 use Rattle.std.specs.List.{slice_get, PartBy}
-use Rattle.std.specs.Option.{option_to_list, unwrap_or}
+use Rattle.std.specs.Option.{option_to_list, UnwrapsOrElse}
 use Rattle.std.proofs.lemmas.List.{take_all, take_more, drop_all, drop_more, length-take, length-drop}
 use Rattle.std.proofs.lemmas.Option.{slice_get-get_or, slice_get_past, slice_get_within, get_or_from_slice_get}
 use Rattle.std.proofs.lemmas.Bool.{cond-true, cond-false, cases_lt}
@@ -101,15 +101,15 @@ alone own offsets i xs o h =
     ap (λ e. between (slice_get offsets i) e xs) (slice_get_past offsets (i + 1) (omega (arith, h))) ∙ no_end (slice_get offsets i) xs
 
 -- What `get` lends between two offsets, or else the empty part, is what lies between them.
-pub lent : {R : Type 0} (now : R → List ℕ) (xs : List ℕ) (s e : ℕ) (r : Option R) (d : R) → PartBy now xs s e r → now d ≡ [] → now (unwrap_or r d) ≡ between (Some s) (Some e) xs
-lent now xs s e None d p n =
+pub lent : {R : Type 0} (now : R → List ℕ) (xs : List ℕ) (s e : ℕ) (o : Option R) (r : R) → PartBy now xs s e o → UnwrapsOrElse o (λ d. now d ≡ []) r → now r ≡ between (Some s) (Some e) xs
+lent now xs s e None r p n =
     n ∙ sym (elim p.0 [
       | inl f ↦
           (let z : e - s ≡ 0 = omega arith in
           either_none (leb e (length xs)) (take (e - s) (drop s xs)) (ap (λ k. take k (drop s xs)) z))
       | inr k ↦ cond-false _ _ _ (lt-leb e (length xs) k)
     ])
-lent now xs s e (Some x) d p n = p.0.2 ∙ sym (cond-true _ _ _ (le-leb e (length xs) p.0.1))
+lent now xs s e (Some x) r p n = ap now n ∙ p.0.2 ∙ sym (cond-true _ _ _ (le-leb e (length xs) p.0.1))
 
 pub more : (xs : List ℕ) (i v : ℕ) → slice_get xs i ≡ Some v → take (i + 1) xs ≡ take i xs ++ (v ∷ [])
 more xs i v e =

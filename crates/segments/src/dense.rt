@@ -4,7 +4,7 @@ ghost use Rattle.std.specs.List.{slice_get};
 ghost use Rattle.std.specs.Option.{option_to_list};
 ghost use Rattle.segments.specs.Segments.{values, of_dense};
 
-use crate::segment::{Segment, cut};
+use crate::segment::{Sliced, cut};
 use records::column_type::ColumnType;
 
 /// A segment with one value for each document and column: the value of document d in column c stands at
@@ -27,32 +27,20 @@ impl<'a> DenseSegment<'a> {
         }
         cut(self.values, column as usize * width, width)
     }
-
-    // The part of the slice that holds the values of a document: at most one.
-    fn part(&self, column: u32, doc: u32) -> &'a [u64]
-        ensures { result.now ≡ values (of_dense self.now) column doc }
-    {
-        cut(self.column(column), doc as usize, 1)
-    }
 }
 
-// The same calls as of the offset segment: a trait of segments in slices with one impl for both would be longer than they.
-impl Segment for DenseSegment<'_> {
-    ghost means = { of_dense };
+impl Sliced for DenseSegment<'_> {
+    ghost holds = { of_dense };
 
-    fn num_docs(&self) -> u32 {
+    fn docs(&self) -> u32 {
         self.num_docs
     }
 
-    fn column_type(&self, column: u32) -> Option<ColumnType> {
-        self.column_types.get(column as usize).copied()
+    fn types(&self) -> &[ColumnType] {
+        self.column_types
     }
 
-    fn num_values(&self, column: u32, doc: u32) -> usize {
-        self.part(column, doc).len()
-    }
-
-    fn value_at(&self, column: u32, doc: u32, index: usize) -> Option<u64> {
-        self.part(column, doc).get(index).copied()
+    fn part(&self, column: u32, doc: u32) -> &[u64] {
+        cut(self.column(column), doc as usize, 1)
     }
 }

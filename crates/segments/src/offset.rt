@@ -3,7 +3,7 @@ ghost use Rattle.std.specs.Prelude.{◌≡◌, ℕ, ◌+◌};
 ghost use Rattle.std.specs.List.{slice_get};
 ghost use Rattle.segments.specs.Segments.{values, between, of_offset};
 
-use crate::segment::{Segment, cut};
+use crate::segment::{Sliced, cut};
 use records::column_type::ColumnType;
 
 /// A segment with any number of values for each document and column. Column c has one offset for each document and one
@@ -28,34 +28,26 @@ impl<'a> OffsetSegment<'a> {
         }
         cut(self.offsets, column as usize * width, width)
     }
-
-    // The part of the slice that holds the values of a document.
-    fn part(&self, column: u32, doc: u32) -> &'a [u64]
-        ensures { result.now ≡ values (of_offset self.now) column doc }
-    {
-        let &[start, end] = cut(self.column(column), doc as usize, 2) else {
-            return &[];
-        };
-        self.values.get(start as usize..end as usize).unwrap_or(&[])
-    }
 }
 
-impl Segment for OffsetSegment<'_> {
-    ghost means = { of_offset };
+impl Sliced for OffsetSegment<'_> {
+    ghost holds = { of_offset };
 
-    fn num_docs(&self) -> u32 {
+    fn docs(&self) -> u32 {
         self.num_docs
     }
 
-    fn column_type(&self, column: u32) -> Option<ColumnType> {
-        self.column_types.get(column as usize).copied()
+    fn types(&self) -> &[ColumnType] {
+        self.column_types
     }
 
-    fn num_values(&self, column: u32, doc: u32) -> usize {
-        self.part(column, doc).len()
-    }
-
-    fn value_at(&self, column: u32, doc: u32, index: usize) -> Option<u64> {
-        self.part(column, doc).get(index).copied()
+    fn part(&self, column: u32, doc: u32) -> &[u64] {
+        let offsets = self.column(column);
+        let &[start, end] = cut(offsets, doc as usize, 2) else {
+            return &[];
+        };
+        self.values
+            .get(start as usize..end as usize)
+            .unwrap_or_default()
     }
 }

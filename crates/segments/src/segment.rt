@@ -30,11 +30,45 @@ pub trait Segment: Copy {
         ensures { result ≡ slice_get (values (means self.now) column doc) index };
 }
 
+/// A segment in slices: the values of a document in a column are one part of a slice.
+pub(crate) trait Sliced: Copy {
+    ghost holds: { Self → Seg };
+
+    fn docs(&self) -> u32
+        ensures { result ≡ (holds self.now).docs };
+
+    fn types(&self) -> &[ColumnType]
+        ensures { slice_get result.now ≡ (holds self.now).column_type };
+
+    fn part(&self, column: u32, doc: u32) -> &[u64]
+        ensures { result.now ≡ values (holds self.now) column doc };
+}
+
+impl<S: Sliced> Segment for S {
+    ghost means = { S.holds };
+
+    fn num_docs(&self) -> u32 {
+        self.docs()
+    }
+
+    fn column_type(&self, column: u32) -> Option<ColumnType> {
+        self.types().get(column as usize).copied()
+    }
+
+    fn num_values(&self, column: u32, doc: u32) -> usize {
+        self.part(column, doc).len()
+    }
+
+    fn value_at(&self, column: u32, doc: u32, index: usize) -> Option<u64> {
+        self.part(column, doc).get(index).copied()
+    }
+}
+
 /// The part of a slice from a place on, of the given length, or shorter where the slice ends before.
 pub(crate) fn cut<T>(all: &[T], start: usize, len: usize) -> &[T]
     ensures { result.now ≡ take len (drop start all.now) }
 {
-    let rest = all.get(start..).unwrap_or(&[]);
+    let rest = all.get(start..).unwrap_or_default();
     rest.get(..len).unwrap_or(rest)
 }
 
