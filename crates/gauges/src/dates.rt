@@ -5,7 +5,7 @@ ghost use Rattle.gauges.specs.Calendar.{days_to, ms_to, OutOfYears};
 use std::fmt;
 
 /// A moment of the years 1 to 9999, to the millisecond.
-#[derive(Clone, Copy)]
+#[derive(Clone, Copy, Debug, PartialEq, Eq)]
 pub struct Moment {
     pub date: Date,
     pub hour: u64,
@@ -15,7 +15,7 @@ pub struct Moment {
 }
 
 /// A day.
-#[derive(Clone, Copy)]
+#[derive(Clone, Copy, Debug, PartialEq, Eq)]
 pub struct Date {
     pub year: u64,
     pub month: u64,
@@ -63,7 +63,7 @@ pub fn moment_at(ms: i64) -> Option<Moment>
     ensures value { MatchOption result (OutOfYears ms) (λ m. pos (ms_to m) ≡ ms +ℤ pos 62162035200000) }
     ensures clock { IfSome result (λ m. (m.hour < 24) × (m.minute < 60) × (m.second < 60) × (m.ms < 1000)) }
 {
-    if ms < FIRST || ms > LAST {
+    if !(FIRST..=LAST).contains(&ms) {
         return None;
     }
     let since = (ms + BEFORE) as u64;
@@ -101,33 +101,25 @@ mod tests {
     use super::*;
     use std::test::Fail;
 
-    fn day_of(ms: i64) -> (u64, u64, u64) {
-        match moment_at(ms) {
-            Some(
-                Moment {
-                    date: Date { year, month, day },
-                    ..
-                },
-            ) => (year, month, day),
-            None => (0, 0, 0),
-        }
+    fn date(year: u64, month: u64, day: u64) -> Option<Date> {
+        Some(Date { year, month, day })
     }
 
     #[test]
     fn days_of_the_calendar(rt: HostRuntime) {
         let days = [
-            (0, (1970, 1, 1)),
-            (-1, (1969, 12, 31)),
-            (951_782_400_000, (2000, 2, 29)),
-            (951_868_800_000, (2000, 3, 1)),
-            (-2_203_891_200_000, (1900, 3, 1)),
-            (-62_135_596_800_000, (1, 1, 1)),
-            (-62_135_596_800_001, (0, 0, 0)),
-            (253_402_300_799_999, (9999, 12, 31)),
-            (253_402_300_800_000, (0, 0, 0)),
+            (0, date(1970, 1, 1)),
+            (-1, date(1969, 12, 31)),
+            (951_782_400_000, date(2000, 2, 29)),
+            (951_868_800_000, date(2000, 3, 1)),
+            (-2_203_891_200_000, date(1900, 3, 1)),
+            (-62_135_596_800_000, date(1, 1, 1)),
+            (-62_135_596_800_001, None),
+            (253_402_300_799_999, date(9999, 12, 31)),
+            (253_402_300_800_000, None),
         ];
         for (ms, day) in days {
-            assert_eq!(rt; day_of(ms), day);
+            assert_eq!(rt; moment_at(ms).map(|m| m.date), day);
         }
     }
 

@@ -19,22 +19,14 @@ impl AggregationLimits {
     pub fn charge(&mut self, level: u32, n: u64) -> Result<(), Fault>
         ensures { MatchResult result (λ _. Charged self.old n self.new) (λ f. (f ≡ over_allowance level) × Refused self.old n self.new) }
     {
-        let limit = self.limit;
-        let over = Fault {
-            refusal: Refusal::AllowanceExceeded,
-            level,
-            place: 0,
-        };
-        match self.used.checked_add(n) {
-            Some(sum) => {
-                self.used = sum;
-                if sum > limit {
-                    return Err(over);
-                }
-                Ok(())
-            }
-            None => Err(over),
+        let Self { limit, used } = *self;
+        let over = Refusal::AllowanceExceeded.at(level);
+        let sum = used.checked_add(n).ok_or(over)?;
+        self.used = sum;
+        if sum > limit {
+            return Err(over);
         }
+        Ok(())
     }
 }
 
@@ -52,11 +44,8 @@ impl Drop for AggregationLimitsGuard<'_> {
     fn drop(self)
         ensures { self.exit.0.now ≡ restored self.entry }
     {
-        self.limits.used = self.before;
-        let AggregationLimitsGuard {
-            limits: _,
-            before: _,
-        } = self;
+        let Self { limits, before } = self;
+        limits.used = before;
     }
 }
 
@@ -85,8 +74,7 @@ pub fn try_charges(limits: &mut AggregationLimits, level: u32, n: u64, m: u64) -
 {
     let mut guard = AggregationLimitsGuard::new(limits);
     guard.charge(level, n)?;
-    guard.charge(level, m)?;
-    Ok(())
+    guard.charge(level, m)
 }
 
 /// Whether two charges would pass, tried under a guard within the given one, which is as before afterwards.

@@ -1,5 +1,5 @@
 -- Why the conversions of the fast fields are the defined ones, and why a turned range end admits exactly what the end does.
-use Rattle.std.proofs.Common.{◌≡◌, ℕ, ◌-◌, ◌*◌, ◌^◌, ◌<◌, ◌≤◌, true, false, not, T, pos, ◌+ℤ◌, sym, refl, ap, ◌∙◌, subst, arith}
+use Rattle.std.proofs.Common.{◌≡◌, ℕ, ◌+◌, ◌-◌, ◌*◌, ◌^◌, ◌<◌, ◌≤◌, true, false, not, T, pos, ◌+ℤ◌, sym, ap, ◌∙◌, subst, arith}
 use lib.Ieee.{Float, nan, inf, fin, up, down, binary64, is_nan, of_bits, to_bits}
 use lib.Ieee.Bits.{to_bits-of_bits, of_bits-to_bits, to_bits-lt}
 use lib.Ieee.Fits.{down_pos}
@@ -8,27 +8,19 @@ use Rattle.std.proofs.lemmas.Bool.Decides.{nat_tests}
 use Rattle.records.specs.ColumnTypes.{Form, whole, rule}
 use Rattle.records.specs.declared.column_type.ColumnType.{ColumnType}
 use Rattle.records.specs.declared.column_type.ColumnType.TheVariants.{U64, I64, F64, DateTime}
-use Rattle.numbers.specs.Whole.{ceil_i64, ceil_u64, NotBelow}
+use Rattle.numbers.specs.Whole.{ceil, NotBelow}
 use Rattle.numbers.specs.Columns.{bits_of, value_of_bits, less_shift, first_from, value, number_of, value_of}
 use Rattle.numbers.specs.Orders.{Undone, ExactEnds}
 use Rattle.numbers.proofs.Wholes.{raise_from, raise_to}
 
--- with no shift the first value is the ceiling, and with 2 ^ 63 it is that much more
-pub first_u64 : (x : Float) → first_from 0 x ≡ ceil_u64 x
-unfolding ceil_u64
-first_u64 nan = refl
-first_u64 (inf true) = refl
-first_u64 (inf false) = refl
-first_u64 (fin true m e) = omega arith
-first_u64 (fin false m e) = omega arith
-
-pub first_i64 : (x : Float) → pos (first_from (2 ^ 63) x) ≡ ceil_i64 x +ℤ pos (2 ^ 63)
-unfolding ceil_i64
-first_i64 nan = refl
-first_i64 (inf true) = refl
-first_i64 (inf false) = refl
-first_i64 (fin true m e) = omega (arith, ints)
-first_i64 (fin false m e) = omega (arith, ints)
+-- the first value is the ceiling and the shift
+pub first_is : (shift high : ℕ) (x : Float) → shift + high ≡ 2 ^ 64 - 1 → pos (first_from shift x) ≡ ceil shift high x +ℤ pos shift
+unfolding ceil
+first_is shift high nan h = omega (arith, ints)
+first_is shift high (inf true) h = omega (arith, ints)
+first_is shift high (inf false) h = omega (arith, ints)
+first_is shift high (fin true m e) h = omega (arith, ints)
+first_is shift high (fin false m e) h = omega (arith, ints)
 
 -- ---- range ends
 first_lt : (shift : ℕ) (x : Float) → shift < 2 ^ 64 → first_from shift x < 2 ^ 64

@@ -9,7 +9,7 @@ use lib.Ieee.Back.{round_whole}
 use Rattle.std.specs.Float as Floats
 use Rattle.std.proofs.lemmas.Int.{ints}
 use Rattle.std.proofs.lemmas.Bool.{cases_lt}
-use Rattle.numbers.specs.Whole.{part, over, floor_i64, ceil_i64, ceil_u64, signed, Floor, Ceiling}
+use Rattle.numbers.specs.Whole.{part, over, cut, floor_i64, ceil, signed, Floor, Ceiling}
 
 pub as_true : {b : Bool} → b ≡ true → T b
 as_true e = subst T (sym e) tt
@@ -94,47 +94,24 @@ floor_order (fin false m e) = record {
   of_nan = λ e. cc;
 }
 
-pub ceil_i64_order : (x : Float) → Ceiling (neg_ℤ (pos (2 ^ 63))) (pos (2 ^ 63 - 1)) x (ceil_i64 x)
-unfolding ceil_i64 is_nan
-ceil_i64_order nan = record { from = omega (arith, ints); to = omega (arith, ints); not_below = λ n. absurd n; least = λ k l h. absurd h; of_nan = λ e. refl }
-ceil_i64_order (inf true) = record { from = omega (arith, ints); to = omega (arith, ints); not_below = λ n. inl tt; least = λ k l h. l; of_nan = λ e. cc }
-ceil_i64_order (inf false) = record { from = omega (arith, ints); to = omega (arith, ints); not_below = λ n. inr refl; least = λ k l h. absurd h; of_nan = λ e. cc }
-ceil_i64_order (fin true m e) = record {
+pub ceil_order : (low high : ℕ) (x : Float) → Ceiling (neg_ℤ (pos low)) (pos high) x (ceil low high x)
+unfolding ceil is_nan
+ceil_order low high nan = record { from = omega (arith, ints); to = omega (arith, ints); not_below = λ n. absurd n; least = λ k l h. absurd h; of_nan = λ e. refl }
+ceil_order low high (inf true) = record { from = omega (arith, ints); to = omega (arith, ints); not_below = λ n. inl tt; least = λ k l h. l; of_nan = λ e. cc }
+ceil_order low high (inf false) = record { from = omega (arith, ints); to = omega (arith, ints); not_below = λ n. inr refl; least = λ k l h. absurd h; of_nan = λ e. cc }
+ceil_order low high (fin true m e) = record {
   from = omega (arith, ints);
   to = omega (arith, ints);
-  not_below = λ n. inl (raise_to (neg_ℤ (pos (min (part (m * up e) (down e)) (2 ^ 63)))) true (m * up e) (down e) (down_pos e) (omega (arith, ints)));
+  not_below = λ n. inl (raise_to (neg_ℤ (pos (min (part (m * up e) (down e)) low))) true (m * up e) (down e) (down_pos e) (omega (arith, ints)));
   least = λ k l h. let g = raise_from k true (m * up e) (down e) (down_pos e) h in omega (arith, ints);
   of_nan = λ e. cc;
 }
-ceil_i64_order (fin false m e) = record {
+ceil_order low high (fin false m e) = record {
   from = omega (arith, ints);
   to = omega (arith, ints);
-  not_below = λ n. elim (cases_lt (2 ^ 63 - 1) (over (m * up e) (down e))) [
+  not_below = λ n. elim (cases_lt high (over (m * up e) (down e))) [
     | inl l ↦ inr (omega (arith, ints))
-    | inr l ↦ inl (raise_to (pos (min (over (m * up e) (down e)) (2 ^ 63 - 1))) false (m * up e) (down e) (down_pos e) (omega (arith, ints)))
-  ];
-  least = λ k l h. let g = raise_from k false (m * up e) (down e) (down_pos e) h in omega (arith, ints);
-  of_nan = λ e. cc;
-}
-
-pub ceil_u64_order : (x : Float) → Ceiling (pos 0) (pos (2 ^ 64 - 1)) x (pos (ceil_u64 x))
-unfolding ceil_u64 is_nan
-ceil_u64_order nan = record { from = omega (arith, ints); to = omega (arith, ints); not_below = λ n. absurd n; least = λ k l h. absurd h; of_nan = λ e. refl }
-ceil_u64_order (inf true) = record { from = omega (arith, ints); to = omega (arith, ints); not_below = λ n. inl tt; least = λ k l h. l; of_nan = λ e. cc }
-ceil_u64_order (inf false) = record { from = omega (arith, ints); to = omega (arith, ints); not_below = λ n. inr refl; least = λ k l h. absurd h; of_nan = λ e. cc }
-ceil_u64_order (fin true m e) = record {
-  from = omega (arith, ints);
-  to = omega (arith, ints);
-  not_below = λ n. inl (raise_to (pos 0) true (m * up e) (down e) (down_pos e) (omega (arith, ints)));
-  least = λ k l h. l;
-  of_nan = λ e. cc;
-}
-ceil_u64_order (fin false m e) = record {
-  from = omega (arith, ints);
-  to = omega (arith, ints);
-  not_below = λ n. elim (cases_lt (2 ^ 64 - 1) (over (m * up e) (down e))) [
-    | inl l ↦ inr (omega (arith, ints))
-    | inr l ↦ inl (raise_to (pos (min (over (m * up e) (down e)) (2 ^ 64 - 1))) false (m * up e) (down e) (down_pos e) (omega (arith, ints)))
+    | inr l ↦ inl (raise_to (pos (min (over (m * up e) (down e)) high)) false (m * up e) (down e) (down_pos e) (omega (arith, ints)))
   ];
   least = λ k l h. let g = raise_from k false (m * up e) (down e) (down_pos e) h in omega (arith, ints);
   of_nan = λ e. cc;
@@ -178,46 +155,39 @@ over_held f s m (negsuc k) h =
 cut_is : (m : ℕ) (e : ℤ) (n : ℕ) → m * up e * 1 ≡ n * down e → m * up e / down e ≡ n
 cut_is m e n h = ap (λ (x : ℕ). x / down e) (sym (mul-one (m * up e)) ∙ h) ∙ mul-div_cancel n (down_pos e)
 
-as_unsigned : (w : ℕ) (y : Float) (n : ℕ) → HasValue y false n 1 → to_unsigned w y ≡ min n (2 ^ w - 1)
-unfolding to_unsigned
-as_unsigned w nan n v = absurd v
-as_unsigned w (inf s) n v = absurd v
-as_unsigned w (fin true m e) n v = absurd (true≢false v.0)
-as_unsigned w (fin false m e) n v = ap (λ (x : ℕ). min x (2 ^ w - 1)) (cut_is m e n v.1)
+as_positive : (low high : ℕ) (y : Float) (n : ℕ) → HasValue y false n 1 → cut low high y ≡ pos (min n high)
+as_positive low high nan n v = absurd v
+as_positive low high (inf s) n v = absurd v
+as_positive low high (fin true m e) n v = absurd (true≢false v.0)
+as_positive low high (fin false m e) n v = ap (λ (x : ℕ). pos (min x high)) (cut_is m e n v.1)
 
-as_none : (w : ℕ) (y : Float) (n : ℕ) → HasValue y true n 1 → to_unsigned w y ≡ 0
-unfolding to_unsigned
-as_none w nan n v = absurd v
-as_none w (inf s) n v = absurd v
-as_none w (fin true m e) n v = refl
-as_none w (fin false m e) n v = absurd (false≢true v.0)
+as_negative : (low high : ℕ) (y : Float) (n : ℕ) → HasValue y true n 1 → cut low high y ≡ neg_ℤ (pos (min n low))
+as_negative low high nan n v = absurd v
+as_negative low high (inf s) n v = absurd v
+as_negative low high (fin true m e) n v = ap (λ (x : ℕ). neg_ℤ (pos (min x low))) (cut_is m e n v.1)
+as_negative low high (fin false m e) n v = absurd (false≢true v.0)
 
-as_positive : (h : ℕ) (y : Float) (n : ℕ) → HasValue y false n 1 → to_signed h y ≡ pos (min n (2 ^ h - 1))
+pub ceil_is : (low high : ℕ) (x : Float) → T (fits binary64 x) → cut low high (Floats.ceil binary64 x) ≡ ceil low high x
+unfolding ceil Floats.round_with
+ceil_is low high nan h = refl
+ceil_is low high (inf true) h = refl
+ceil_is low high (inf false) h = refl
+ceil_is low high (fin true m e) h = as_negative low high _ _ (part_held binary64 true m e h)
+ceil_is low high (fin false m e) h = as_positive low high _ _ (over_held binary64 false m e h)
+
+-- ---- the conversions to i64 and u64 are such cuts
+pub signed_is : (x : Float) → to_signed 63 x ≡ cut (2 ^ 63) (2 ^ 63 - 1) x
 unfolding to_signed
-as_positive h nan n v = absurd v
-as_positive h (inf s) n v = absurd v
-as_positive h (fin true m e) n v = absurd (true≢false v.0)
-as_positive h (fin false m e) n v = ap (λ (x : ℕ). pos (min x (2 ^ h - 1))) (cut_is m e n v.1)
+signed_is nan = refl
+signed_is (inf true) = refl
+signed_is (inf false) = refl
+signed_is (fin true m e) = refl
+signed_is (fin false m e) = refl
 
-as_negative : (h : ℕ) (y : Float) (n : ℕ) → HasValue y true n 1 → to_signed h y ≡ neg_ℤ (pos (min n (2 ^ h)))
-unfolding to_signed
-as_negative h nan n v = absurd v
-as_negative h (inf s) n v = absurd v
-as_negative h (fin true m e) n v = ap (λ (x : ℕ). neg_ℤ (pos (min x (2 ^ h)))) (cut_is m e n v.1)
-as_negative h (fin false m e) n v = absurd (false≢true v.0)
-
-pub ceil_i64_is : (x : Float) → T (fits binary64 x) → to_signed 63 (Floats.ceil binary64 x) ≡ ceil_i64 x
-unfolding ceil_i64 Floats.round_with to_signed
-ceil_i64_is nan h = refl
-ceil_i64_is (inf true) h = refl
-ceil_i64_is (inf false) h = refl
-ceil_i64_is (fin true m e) h = as_negative 63 _ _ (part_held binary64 true m e h)
-ceil_i64_is (fin false m e) h = as_positive 63 _ _ (over_held binary64 false m e h)
-
-pub ceil_u64_is : (x : Float) → T (fits binary64 x) → to_unsigned 64 (Floats.ceil binary64 x) ≡ ceil_u64 x
-unfolding ceil_u64 Floats.round_with to_unsigned
-ceil_u64_is nan h = refl
-ceil_u64_is (inf true) h = refl
-ceil_u64_is (inf false) h = refl
-ceil_u64_is (fin true m e) h = as_none 64 _ _ (part_held binary64 true m e h)
-ceil_u64_is (fin false m e) h = as_unsigned 64 _ _ (over_held binary64 false m e h)
+pub unsigned_is : (x : Float) → pos (to_unsigned 64 x) ≡ cut 0 (2 ^ 64 - 1) x
+unfolding to_unsigned
+unsigned_is nan = refl
+unsigned_is (inf true) = refl
+unsigned_is (inf false) = refl
+unsigned_is (fin true m e) = omega (arith, ints)
+unsigned_is (fin false m e) = refl

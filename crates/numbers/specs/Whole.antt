@@ -18,21 +18,21 @@ floor_i64 (inf false) = pos (2 ^ 63 - 1)
 floor_i64 (fin true m e) = neg_ℤ (pos (min (over (m * up e) (down e)) (2 ^ 63)))
 floor_i64 (fin false m e) = pos (min (part (m * up e) (down e)) (2 ^ 63 - 1))
 
--- the least whole number not below x, brought into -2 ^ 63 .. 2 ^ 63 - 1; 0 for a NaN
-unfoldable pub ceil_i64 : Float → ℤ
-ceil_i64 nan = pos 0
-ceil_i64 (inf true) = neg_ℤ (pos (2 ^ 63))
-ceil_i64 (inf false) = pos (2 ^ 63 - 1)
-ceil_i64 (fin true m e) = neg_ℤ (pos (min (part (m * up e) (down e)) (2 ^ 63)))
-ceil_i64 (fin false m e) = pos (min (over (m * up e) (down e)) (2 ^ 63 - 1))
+-- x without its fraction, brought into -low .. high; 0 for a NaN
+abbrev pub cut : (low high : ℕ) → Float → ℤ
+cut low high nan = pos 0
+cut low high (inf true) = neg_ℤ (pos low)
+cut low high (inf false) = pos high
+cut low high (fin true m e) = neg_ℤ (pos (min (part (m * up e) (down e)) low))
+cut low high (fin false m e) = pos (min (part (m * up e) (down e)) high)
 
--- the least whole number not below x, brought into 0 .. 2 ^ 64 - 1; 0 for a NaN
-unfoldable pub ceil_u64 : Float → ℕ
-ceil_u64 nan = 0
-ceil_u64 (inf true) = 0
-ceil_u64 (inf false) = 2 ^ 64 - 1
-ceil_u64 (fin true m e) = 0
-ceil_u64 (fin false m e) = min (over (m * up e) (down e)) (2 ^ 64 - 1)
+-- the least whole number not below x, brought into -low .. high; 0 for a NaN
+unfoldable pub ceil : (low high : ℕ) → Float → ℤ
+ceil low high nan = pos 0
+ceil low high (inf true) = neg_ℤ (pos low)
+ceil low high (inf false) = pos high
+ceil low high (fin true m e) = neg_ℤ (pos (min (part (m * up e) (down e)) low))
+ceil low high (fin false m e) = pos (min (over (m * up e) (down e)) high)
 
 -- ---- the same as laws of order
 

@@ -3,7 +3,7 @@ ghost use Rattle.std.specs.Prelude.{◌≡◌, if◌then◌else◌, Some, None, 
 ghost use Rattle.numbers.specs.Columns.{number_of, value_of};
 
 use crate::mapping::{f64_to_u64, i64_to_u64, u64_to_f64, u64_to_i64};
-use crate::whole::{ceil_i64, ceil_u64};
+use crate::whole::ceil;
 use records::column_type::ColumnType;
 use std::num::{nearest_i64_to_f64, nearest_u64_to_f64};
 
@@ -29,8 +29,8 @@ pub fn f64_to_fastfield_u64(val: f64, field_type: ColumnType) -> Option<u64>
         return None;
     }
     match field_type {
-        ColumnType::U64 | ColumnType::Bool => Some(ceil_u64(val)),
-        ColumnType::I64 | ColumnType::DateTime => Some(i64_to_u64(ceil_i64(val))),
+        ColumnType::U64 | ColumnType::Bool => Some(ceil(val)),
+        ColumnType::I64 | ColumnType::DateTime => Some(i64_to_u64(ceil(val))),
         ColumnType::F64 => Some(f64_to_u64(val)),
     }
 }

@@ -3,6 +3,6 @@
 #![tactic(auto)]
 
 pub mod fast_field;
-mod mapping;
+pub mod mapping;
 pub mod order;
 pub mod whole;

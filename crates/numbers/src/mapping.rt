@@ -11,22 +11,14 @@ const HIGHEST_BIT: u64 = 0x8000_0000_0000_0000;
 pub(crate) fn u64_to_i64(val: u64) -> i64
     ensures { result ≡ less_shift (2 ^ 63) val }
 {
-    if val >= HIGHEST_BIT {
-        (val - HIGHEST_BIT) as i64
-    } else {
-        i64::MIN + val as i64
-    }
+    (val ^ HIGHEST_BIT).cast_signed()
 }
 
 /// The value that stands for a signed number: 2^63 more.
-pub(crate) fn i64_to_u64(val: i64) -> u64
+pub fn i64_to_u64(val: i64) -> u64
     ensures { pos result ≡ val +ℤ pos (2 ^ 63) }
 {
-    if val >= 0 {
-        val as u64 + HIGHEST_BIT
-    } else {
-        (val - i64::MIN) as u64
-    }
+    val.cast_unsigned() ^ HIGHEST_BIT
 }
 
 /// The float that a value stands for, NaN where its bits are no number's.
@@ -34,9 +26,9 @@ pub(crate) fn u64_to_f64(val: u64) -> f64
     ensures { result ≡ from_bits binary64 (bits_of val) }
 {
     f64_from_bits_with_nan(if val >= HIGHEST_BIT {
-        val - HIGHEST_BIT
+        val ^ HIGHEST_BIT
     } else {
-        u64::MAX - val
+        !val
     })
 }
 
@@ -46,8 +38,8 @@ pub(crate) fn f64_to_u64(val: f64) -> u64
 {
     let bits = f64_to_bits_with_nan(val);
     if bits < HIGHEST_BIT {
-        bits + HIGHEST_BIT
+        bits ^ HIGHEST_BIT
     } else {
-        u64::MAX - bits
+        !bits
     }
 }

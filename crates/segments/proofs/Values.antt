@@ -1,10 +1,10 @@
 -- What is read of a segment's lists, and that unknown columns and documents read as none.
-use Rattle.std.proofs.Common.{◌≡◌, ℕ, zero, suc, ◌+◌, ◌-◌, ◌*◌, ◌<◌, ◌≤◌, Bool, true, false, cond, ltb, leb, List, [], ◌∷◌, ◌++◌, length, get_or, take, drop, is_some, Some, None, Option, sym, refl, ap, ◌∙◌, inl, inr, le_of_suc-le-suc, not-suc-le-zero, add_assoc, suc-add, zero-add, arith, ltb-false, ltb-true, le-ltb, lt-ltb, le-leb}
+use Rattle.std.proofs.Common.{◌≡◌, ℕ, zero, suc, ◌+◌, ◌-◌, ◌*◌, ◌<◌, ◌≤◌, Bool, true, false, ◌⊎◌, cond, leb, List, [], ◌∷◌, ◌++◌, length, min, get_or, take, drop, is_some, Some, None, Option, sym, refl, ap, ◌∙◌, inl, inr, le_of_suc-le-suc, not-suc-le-zero, add_assoc, suc-add, zero-add, arith, le-ltb, lt-ltb, le-leb}
 use borrow.Author.Tests.{lt-leb}
-use Rattle.std.specs.List.{slice_get}
-use Rattle.std.specs.Option.{option_to_list}
+use Rattle.std.specs.List.{slice_get, PartBy}
+use Rattle.std.specs.Option.{option_to_list, UnwrapsOrElse}
 use Rattle.std.proofs.lemmas.List.{take_all, take_more, drop_all, drop_more, length-take, length-drop}
-use Rattle.std.proofs.lemmas.Option.{slice_get-get_or, slice_get_past}
+use Rattle.std.proofs.lemmas.Option.{slice_get-get_or, slice_get_past, slice_get_within, get_or_from_slice_get}
 use Rattle.std.proofs.lemmas.Bool.{cond-true, cond-false, cases_lt}
 use Rattle.records.specs.declared.column_type.ColumnType.{ColumnType}
 use Rattle.records.specs.declared.column_type.ColumnType.TheVariants.{U64}
@@ -47,20 +47,12 @@ nth_part s n xs i h = nth_take n (drop s xs) i h ∙ nth_drop s xs i
 nth_after : {X : Type 0} (s n : ℕ) (xs : List X) (i : ℕ) → n ≤ i → slice_get (take n (drop s xs)) i ≡ None
 nth_after s n xs i h = slice_get_past (take n (drop s xs)) i (simp length-take (omega arith))
 
--- A part that begins past the end is empty; one that reaches the end is all the rest.
-pub part-past : {X : Type 0} (n s : ℕ) (xs : List X) → length xs ≤ s → [] ≡ take n (drop s xs)
-part-past n s xs h = sym (ap (take n) (drop_all s xs h) ∙ take_all n [] (omega arith))
-
-pub part_rest : {X : Type 0} (n s : ℕ) (xs : List X) → length xs - s ≤ n → take (length xs - s) (drop s xs) ≡ take n (drop s xs)
-part_rest n s xs h =
-    take_all (length xs - s) (drop s xs) (simp length-drop (omega arith)) ∙ sym (take_all n (drop s xs) (simp length-drop h))
-
 -- The part of length 1 at a place is what is read there.
 pub part_one : (xs : List ℕ) (i : ℕ) → take 1 (drop i xs) ≡ option_to_list (slice_get xs i)
 part_one xs i =
     elim (cases_lt i (length xs)) [
       | inl h ↦ ap (take 1) (drop_more xs i 0 h) ∙ sym (ap option_to_list (slice_get-get_or xs i 0 h))
-      | inr h ↦ sym (part-past 1 i xs h) ∙ sym (ap option_to_list (slice_get_past xs i h))
+      | inr h ↦ ap (take 1) (drop_all i xs h) ∙ sym (ap option_to_list (slice_get_past xs i h))
     ]
 
 -- The column's part of a dense slice holds the values of every document.
@@ -93,53 +85,49 @@ offset_column docs types offsets stored c h d =
           (ap (λ e. between own e stored) (nth_after p w offsets (d + 1) (omega arith)) ∙ no_end own stored ∙ sym (no_doc g c d m))
     ]
 
--- Offsets that are missing, fall or pass the end give none, any others the part between them.
-pub misses : (offsets : List ℕ) (i : ℕ) (xs : List ℕ) → length offsets ≤ i + 1 → between (slice_get offsets i) (slice_get offsets (i + 1)) xs ≡ []
-misses offsets i xs h =
-    ap (λ e. between (slice_get offsets i) e xs) (slice_get_past offsets (i + 1) h) ∙ no_end (slice_get offsets i) xs
-
-there : (offsets : List ℕ) (i : ℕ) (xs : List ℕ) → i + 1 < length offsets → between (slice_get offsets i) (slice_get offsets (i + 1)) xs ≡ between (Some (get_or offsets i 0)) (Some (get_or offsets (i + 1) 0)) xs
-there offsets i xs h =
-    let s : slice_get offsets i ≡ Some (get_or offsets i 0) = slice_get-get_or offsets i 0 (omega arith) in
-    let e : slice_get offsets (i + 1) ≡ Some (get_or offsets (i + 1) 0) = slice_get-get_or offsets (i + 1) 0 h in
+-- A part of length 2 of the offsets holds a document's own and the next.
+pub pair : (own offsets : List ℕ) (i : ℕ) (xs : List ℕ) → own ≡ take 2 (drop i offsets) → 2 ≤ length own → between (Some (get_or own 0 0)) (Some (get_or own 1 0)) xs ≡ between (slice_get offsets i) (slice_get offsets (i + 1)) xs
+pair own offsets i xs o h =
+    let at : (j k : ℕ) → j < 2 → i + j ≡ k → Some (get_or own j 0) ≡ slice_get offsets k =
+    λ j k l e. sym (slice_get-get_or own j 0 (omega arith)) ∙ ap (λ m. slice_get m j) o ∙ nth_part i 2 offsets j l ∙ ap (slice_get offsets) e in
+    let s = at 0 i (omega arith) (omega arith) in
+    let e = at 1 (i + 1) (omega arith) refl in
     λ j. between (s j) (e j) xs
 
-pub falls : (offsets : List ℕ) (i : ℕ) (xs : List ℕ) → i + 1 < length offsets → get_or offsets (i + 1) 0 < get_or offsets i 0 → between (slice_get offsets i) (slice_get offsets (i + 1)) xs ≡ []
-falls offsets i xs h f =
-    let s = get_or offsets i 0 in
-    let e = get_or offsets (i + 1) 0 in
-    let z : e - s ≡ 0 = omega arith in
-    there offsets i xs h ∙ either_none (leb e (length xs)) (take (e - s) (drop s xs)) (ap (λ n. take n (drop s xs)) z)
+-- A part of another length is a shorter one, so there is no next offset.
+pub alone : (own offsets : List ℕ) (i : ℕ) (xs : List ℕ) → own ≡ take 2 (drop i offsets) → (length own < 2) ⊎ (3 ≤ length own) → between (slice_get offsets i) (slice_get offsets (i + 1)) xs ≡ []
+alone own offsets i xs o h =
+    let l : length own ≡ min 2 (length offsets - i) = ap length o ∙ simp (length-take, length-drop) refl in
+    ap (λ e. between (slice_get offsets i) e xs) (slice_get_past offsets (i + 1) (omega (arith, h))) ∙ no_end (slice_get offsets i) xs
 
-pub passes : (offsets : List ℕ) (i : ℕ) (xs : List ℕ) → i + 1 < length offsets → length xs < get_or offsets (i + 1) 0 → between (slice_get offsets i) (slice_get offsets (i + 1)) xs ≡ []
-passes offsets i xs h p = there offsets i xs h ∙ cond-false _ _ _ (lt-leb (get_or offsets (i + 1) 0) (length xs) p)
-
-pub lies : (offsets : List ℕ) (i : ℕ) (xs : List ℕ) → i + 1 < length offsets → get_or offsets (i + 1) 0 ≤ length xs → between (slice_get offsets i) (slice_get offsets (i + 1)) xs ≡ take (get_or offsets (i + 1) 0 - get_or offsets i 0) (drop (get_or offsets i 0) xs)
-lies offsets i xs h p = there offsets i xs h ∙ cond-true _ _ _ (le-leb (get_or offsets (i + 1) 0) (length xs) p)
-
--- Where an index reads a value, it is the list's there; where it reads none, it is past the end.
-read_value : (xs : List ℕ) (i v : ℕ) (b : Bool) → ltb i (length xs) ≡ b → slice_get xs i ≡ Some v → (i < length xs) × (get_or xs i 0 ≡ v)
-read_value xs i v true t e = let g = slice_get-get_or xs i 0 (ltb-true i (length xs) t) in (ltb-true i (length xs) t, cc)
-read_value xs i v false t e =
-    let g = slice_get_past xs i (ltb-false i (length xs) t) in let z : ◌≡◌ {A = ℕ} 0 1 = cc in (omega arith, omega arith)
-
-read_none : (xs : List ℕ) (i : ℕ) (b : Bool) → ltb i (length xs) ≡ b → slice_get xs i ≡ None → length xs ≤ i
-read_none xs i true t e =
-    let g = slice_get-get_or xs i 0 (ltb-true i (length xs) t) in let z : ◌≡◌ {A = ℕ} 0 1 = cc in omega arith
-read_none xs i false t e = ltb-false i (length xs) t
+-- What `get` lends between two offsets, or else the empty part, is what lies between them.
+pub lent : {R : Type 0} (now : R → List ℕ) (xs : List ℕ) (s e : ℕ) (o : Option R) (r : R) → PartBy now xs s e o → UnwrapsOrElse o (λ d. now d ≡ []) r → now r ≡ between (Some s) (Some e) xs
+lent now xs s e None r p n =
+    n ∙ sym (elim p.0 [
+      | inl f ↦
+          (let z : e - s ≡ 0 = omega arith in
+          either_none (leb e (length xs)) (take (e - s) (drop s xs)) (ap (λ k. take k (drop s xs)) z))
+      | inr k ↦ cond-false _ _ _ (lt-leb e (length xs) k)
+    ])
+lent now xs s e (Some x) r p n = ap now n ∙ p.0.2 ∙ sym (cond-true _ _ _ (le-leb e (length xs) p.0.1))
 
 pub more : (xs : List ℕ) (i v : ℕ) → slice_get xs i ≡ Some v → take (i + 1) xs ≡ take i xs ++ (v ∷ [])
 more xs i v e =
-    let p = read_value xs i v (ltb i (length xs)) refl e in
-    take_more xs i 0 p.0 ∙ ap (λ w. take i xs ++ (w ∷ [])) p.1
+    take_more xs i 0 (slice_get_within xs i v e) ∙ ap (λ w. take i xs ++ (w ∷ [])) (get_or_from_slice_get xs i v 0 e)
+
+-- Where an index reads no value, it is past the end.
+past : (xs : List ℕ) (i : ℕ) → slice_get xs i ≡ None → length xs ≤ i
+past xs i e =
+    elim (cases_lt i (length xs)) [
+      | inl h ↦ (let g = slice_get-get_or xs i 0 h in let z : ◌≡◌ {A = ℕ} 0 1 = cc in omega arith)
+      | inr h ↦ h
+    ]
 
 pub no_more : (xs : List ℕ) (i : ℕ) → slice_get xs i ≡ None → take (i + 1) xs ≡ take i xs
-no_more xs i e =
-    let past : length xs ≤ i = read_none xs i (ltb i (length xs)) refl e in
-    take_all (i + 1) xs (omega arith) ∙ sym (take_all i xs past)
+no_more xs i e = take_all (i + 1) xs (omega (arith, past xs i e)) ∙ sym (take_all i xs (past xs i e))
 
 pub all : (xs : List ℕ) (i : ℕ) → slice_get xs i ≡ None → take i xs ≡ xs
-all xs i e = take_all i xs (read_none xs i (ltb i (length xs)) refl e)
+all xs i e = take_all i xs (past xs i e)
 
 pub reading : Reading
 reading = record { no_column = no_column; no_doc = no_doc; more = more; no_more = no_more; all = all }

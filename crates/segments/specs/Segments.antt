@@ -3,6 +3,8 @@ use Rattle.std.specs.Prelude.{◌≡◌, ℕ, ◌+◌, ◌-◌, ◌*◌, ◌≤�
 use Rattle.std.specs.List.{slice_get}
 use Rattle.std.specs.Option.{option_to_list}
 use Rattle.records.specs.declared.column_type.ColumnType.{ColumnType}
+use Rattle.segments.specs.declared.dense.DenseSegment.{DenseSegment}
+use Rattle.segments.specs.declared.offset.OffsetSegment.{OffsetSegment}
 
 -- A segment: so many documents, numbered from 0 and fewer than 2^32, as a u32 answers their number; columns, known if
 -- they have a type; and what is stored for a column and a document.
@@ -23,6 +25,9 @@ dense docs types stored = record {
   held = λ column doc. option_to_list (slice_get stored (column * docs + doc));
 }
 
+abbrev pub of_dense : DenseSegment → Seg
+of_dense s = dense s.num_docs s.column_types.now s.values.now
+
 -- the values between two offsets; none where an offset is missing, where the offsets fall (`-` stops at 0) or where
 -- they pass the end
 abbrev pub between : Option ℕ → Option ℕ → List ℕ → List ℕ
@@ -42,6 +47,9 @@ by_offsets docs types offsets stored = record {
       (slice_get offsets (column * (docs + 1) + doc + 1))
       stored;
 }
+
+abbrev pub of_offset : OffsetSegment → Seg
+of_offset s = by_offsets s.num_docs s.column_types.now s.offsets.now s.values.now
 
 -- Unknown columns and documents have no values; and reading a list by index from 0 until none is left reads it whole.
 pub record Reading : Type 0 where

@@ -2,9 +2,9 @@
 ghost use Rattle.std.specs.Prelude.{◌≡◌, ℕ};
 ghost use Rattle.std.specs.List.{slice_get};
 ghost use Rattle.std.specs.Option.{option_to_list};
-ghost use Rattle.segments.specs.Segments.{values, dense};
+ghost use Rattle.segments.specs.Segments.{values, of_dense};
 
-use crate::segment::{Segment, cut, read, type_of};
+use crate::segment::{Sliced, cut};
 use records::column_type::ColumnType;
 
 /// A segment with one value for each document and column: the value of document d in column c stands at
@@ -19,40 +19,28 @@ pub struct DenseSegment<'a> {
 impl<'a> DenseSegment<'a> {
     // The values of a column, one for each document from the first, as far as the slice goes.
     fn column(&self, column: u32) -> &'a [u64]
-        ensures { (doc : ℕ) → option_to_list (slice_get result.now doc) ≡ values (dense self.now.num_docs self.now.column_types.now self.now.values.now) column doc }
+        ensures { (doc : ℕ) → option_to_list (slice_get result.now doc) ≡ values (of_dense self.now) column doc }
     {
-        let all = self.values;
         let width = self.num_docs as usize;
         if column as usize >= self.column_types.len() {
-            return &all[0..0];
+            return &[];
         }
-        cut(all, column as usize * width, width)
-    }
-
-    // The part of the slice that holds the values of a document: at most one.
-    fn part(&self, column: u32, doc: u32) -> &'a [u64]
-        ensures { result.now ≡ values (dense self.now.num_docs self.now.column_types.now self.now.values.now) column doc }
-    {
-        cut(self.column(column), doc as usize, 1)
+        cut(self.values, column as usize * width, width)
     }
 }
 
-impl Segment for DenseSegment<'_> {
-    ghost means = { λ s. dense s.num_docs s.column_types.now s.values.now };
+impl Sliced for DenseSegment<'_> {
+    ghost holds = { of_dense };
 
-    fn num_docs(&self) -> u32 {
+    fn docs(&self) -> u32 {
         self.num_docs
     }
 
-    fn column_type(&self, column: u32) -> Option<ColumnType> {
-        type_of(self.column_types, column)
+    fn types(&self) -> &[ColumnType] {
+        self.column_types
     }
 
-    fn num_values(&self, column: u32, doc: u32) -> usize {
-        self.part(column, doc).len()
-    }
-
-    fn value_at(&self, column: u32, doc: u32, index: usize) -> Option<u64> {
-        read(self.part(column, doc), index)
+    fn part(&self, column: u32, doc: u32) -> &[u64] {
+        cut(self.column(column), doc as usize, 1)
     }
 }

@@ -1,9 +1,9 @@
 //! The offset segment.
 ghost use Rattle.std.specs.Prelude.{◌≡◌, ℕ, ◌+◌};
 ghost use Rattle.std.specs.List.{slice_get};
-ghost use Rattle.segments.specs.Segments.{values, between, by_offsets};
+ghost use Rattle.segments.specs.Segments.{values, between, of_offset};
 
-use crate::segment::{Segment, cut, read, type_of};
+use crate::segment::{Sliced, cut};
 use records::column_type::ColumnType;
 
 /// A segment with any number of values for each document and column. Column c has one offset for each document and one
@@ -20,54 +20,34 @@ pub struct OffsetSegment<'a> {
 impl<'a> OffsetSegment<'a> {
     // The offsets of a column, as far as the slice goes.
     fn column(&self, column: u32) -> &'a [u32]
-        ensures { (doc : ℕ) → between (slice_get result.now doc) (slice_get result.now (doc + 1)) self.now.values.now ≡ values (by_offsets self.now.num_docs self.now.column_types.now self.now.offsets.now self.now.values.now) column doc }
+        ensures { (doc : ℕ) → between (slice_get result.now doc) (slice_get result.now (doc + 1)) self.now.values.now ≡ values (of_offset self.now) column doc }
     {
-        let all = self.offsets;
         let width = self.num_docs as usize + 1;
         if column as usize >= self.column_types.len() {
-            return &all[0..0];
+            return &[];
         }
-        cut(all, column as usize * width, width)
-    }
-
-    // The part of the slice that holds the values of a document.
-    fn part(&self, column: u32, doc: u32) -> &'a [u64]
-        ensures { result.now ≡ values (by_offsets self.now.num_docs self.now.column_types.now self.now.offsets.now self.now.values.now) column doc }
-    {
-        let all = self.values;
-        let offsets = self.column(column);
-        let at = doc as usize;
-        if at + 1 >= offsets.len() {
-            return &all[0..0];
-        }
-        let start = offsets[at] as usize;
-        let end = offsets[at + 1] as usize;
-        if start > end {
-            return &all[0..0];
-        }
-        if end > all.len() {
-            return &all[0..0];
-        }
-        &all[start..end]
+        cut(self.offsets, column as usize * width, width)
     }
 }
 
-impl Segment for OffsetSegment<'_> {
-    ghost means = { λ s. by_offsets s.num_docs s.column_types.now s.offsets.now s.values.now };
+impl Sliced for OffsetSegment<'_> {
+    ghost holds = { of_offset };
 
-    fn num_docs(&self) -> u32 {
+    fn docs(&self) -> u32 {
         self.num_docs
     }
 
-    fn column_type(&self, column: u32) -> Option<ColumnType> {
-        type_of(self.column_types, column)
+    fn types(&self) -> &[ColumnType] {
+        self.column_types
     }
 
-    fn num_values(&self, column: u32, doc: u32) -> usize {
-        self.part(column, doc).len()
-    }
-
-    fn value_at(&self, column: u32, doc: u32, index: usize) -> Option<u64> {
-        read(self.part(column, doc), index)
+    fn part(&self, column: u32, doc: u32) -> &[u64] {
+        let offsets = self.column(column);
+        let &[start, end] = cut(offsets, doc as usize, 2) else {
+            return &[];
+        };
+        self.values
+            .get(start as usize..end as usize)
+            .unwrap_or_default()
     }
 }

@@ -30,26 +30,37 @@ pub trait Segment: Copy {
         ensures { result ≡ slice_get (values (means self.now) column doc) index };
 }
 
-/// The value at an index of a slice; none past its end.
-pub(crate) fn read(values: &[u64], index: usize) -> Option<u64>
-    ensures { result ≡ slice_get «values».now index }
-{
-    if index < values.len() {
-        Some(values[index])
-    } else {
-        None
-    }
+/// A segment in slices: the values of a document in a column are one part of a slice.
+pub(crate) trait Sliced: Copy {
+    ghost holds: { Self → Seg };
+
+    fn docs(&self) -> u32
+        ensures { result ≡ (holds self.now).docs };
+
+    fn types(&self) -> &[ColumnType]
+        ensures { slice_get result.now ≡ (holds self.now).column_type };
+
+    fn part(&self, column: u32, doc: u32) -> &[u64]
+        ensures { result.now ≡ values (holds self.now) column doc };
 }
 
-/// The type of a column; none past the last.
-pub(crate) fn type_of(types: &[ColumnType], column: u32) -> Option<ColumnType>
-    ensures { result ≡ slice_get types.now column }
-{
-    let at = column as usize;
-    if at < types.len() {
-        Some(types[at])
-    } else {
-        None
+impl<S: Sliced> Segment for S {
+    ghost means = { S.holds };
+
+    fn num_docs(&self) -> u32 {
+        self.docs()
+    }
+
+    fn column_type(&self, column: u32) -> Option<ColumnType> {
+        self.types().get(column as usize).copied()
+    }
+
+    fn num_values(&self, column: u32, doc: u32) -> usize {
+        self.part(column, doc).len()
+    }
+
+    fn value_at(&self, column: u32, doc: u32, index: usize) -> Option<u64> {
+        self.part(column, doc).get(index).copied()
     }
 }
 
@@ -57,18 +68,11 @@ pub(crate) fn type_of(types: &[ColumnType], column: u32) -> Option<ColumnType>
 pub(crate) fn cut<T>(all: &[T], start: usize, len: usize) -> &[T]
     ensures { result.now ≡ take len (drop start all.now) }
 {
-    if start >= all.len() {
-        return &all[0..0];
-    }
-    if len < all.len() - start {
-        return &all[start..start + len];
-    }
-    &all[start..all.len()]
+    let rest = all.get(start..).unwrap_or_default();
+    rest.get(..len).unwrap_or(rest)
 }
 
 /// Unknown columns and documents have no values, and reading by index from 0 reads a whole list.
-pub fn reading_stands() -> u8
+pub fn reading_stands()
     ensures { Reading }
-{
-    0
-}
+{}
