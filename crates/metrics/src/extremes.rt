@@ -19,20 +19,14 @@ impl Extremes {
     pub fn least(&self) -> Option<u64>
         ensures { result ≡ least_of self.now.ends }
     {
-        match self.ends {
-            Some((least, _)) => Some(least),
-            None => None,
-        }
+        self.ends.map(|(least, _)| least)
     }
 
     /// The largest value, or none.
     pub fn greatest(&self) -> Option<u64>
         ensures { result ≡ greatest_of self.now.ends }
     {
-        match self.ends {
-            Some((_, greatest)) => Some(greatest),
-            None => None,
-        }
+        self.ends.map(|(_, greatest)| greatest)
     }
 }
 
@@ -80,9 +74,7 @@ impl Joinable for Extremes {
         self.ends = wider(self.ends, other.ends);
     }
 
-    fn joinable_stands() -> u8 {
-        0
-    }
+    fn joinable_stands() {}
 }
 
 impl Exact for Extremes {
@@ -98,14 +90,10 @@ impl Exact for Extremes {
 
     ghost laws = { widening_laws };
 
-    fn exact_stands() -> u8 {
-        0
-    }
+    fn exact_stands() {}
 }
 
 /// Extremes are worth two of the values they were fed, with every one between them, or none where they were fed none.
-pub fn extremes_stand() -> u8
+pub fn extremes_stand()
     ensures { Reaches }
-{
-    0
-}
+{}

@@ -20,6 +20,6 @@ pub trait Joinable: Tally {
         ensures { worth self.new ≡ joined (worth self.old) (worth other.now) };
 
     /// That this worth and the tally's say the same.
-    fn joinable_stands() -> u8
+    fn joinable_stands()
         ensures { SameWorth Self.Tally.worth worth };
 }

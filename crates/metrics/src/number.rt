@@ -65,9 +65,7 @@ impl Joinable for Number {
         *self = self.with(other.count);
     }
 
-    fn joinable_stands() -> u8 {
-        0
-    }
+    fn joinable_stands() {}
 }
 
 impl Exact for Number {
@@ -83,14 +81,10 @@ impl Exact for Number {
 
     ghost laws = { number_laws };
 
-    fn exact_stands() -> u8 {
-        0
-    }
+    fn exact_stands() {}
 }
 
 /// A Number is worth how many values it was fed, at most 2^64 − 1.
-pub fn number_stands() -> u8
+pub fn number_stands()
     ensures { Counts }
-{
-    0
-}
+{}

@@ -66,30 +66,19 @@ impl IntermediateStats {
     pub fn avg(&self) -> Option<f64>
         ensures { result ≡ mean (stats_worth self.now) }
     {
-        if self.count == 0 {
-            None
-        } else {
-            Some(self.sum() / nearest_u64_to_f64(self.count))
-        }
+        (self.count > 0).then(|| self.sum() / nearest_u64_to_f64(self.count))
     }
 
     /// Computes the final stats value.
     pub fn finalize(&self) -> Stats
         ensures { result ≡ finalized (stats_worth self.now) }
     {
-        let (min, max) = if self.count == 0 {
-            (None, None)
-        } else {
-            (
-                Some(f64_from_bits_with_nan(self.min)),
-                Some(f64_from_bits_with_nan(self.max)),
-            )
-        };
+        let any = self.count > 0;
         Stats {
             count: self.count,
             sum: self.sum(),
-            min,
-            max,
+            min: any.then_some(f64_from_bits_with_nan(self.min)),
+            max: any.then_some(f64_from_bits_with_nan(self.max)),
             avg: self.avg(),
         }
     }
@@ -205,32 +194,24 @@ impl Joinable for IntermediateStats {
         );
     }
 
-    fn joinable_stands() -> u8 {
-        0
-    }
+    fn joinable_stands() {}
 }
 
 /// The worked cases: 2^53, 1 and 1 sum to 2^53 + 2, and after +∞ and 1 the sum is +∞ and the least 1.
-pub fn stats_stand() -> u8
+pub fn stats_stand()
     ensures { Worked }
-{
-    0
-}
+{}
 
 /// A NaN changes neither the least nor the greatest, of −0.0 and +0.0 the earlier stays, and a sum that is not finite has
 /// compensation 0.
-pub fn stats_laws_stand() -> u8
+pub fn stats_laws_stand()
     ensures { StatsLaws }
-{
-    0
-}
+{}
 
 /// What an addition rounds off is carried in the compensation, in a merging too.
-pub fn compensation_stands() -> u8
+pub fn compensation_stands()
     ensures { Carries }
-{
-    0
-}
+{}
 
 #[cfg(test)]
 mod tests {
