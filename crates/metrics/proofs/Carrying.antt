@@ -13,6 +13,7 @@ use Rattle.std.specs.Float.{float_is_finite}
 use Rattle.std.proofs.lemmas.Bool.Decides.{leb_tells}
 use Rattle.std.proofs.lemmas.Int.{ints}
 use Rattle.metrics.specs.Carry.{signed, in_units, Carries}
+use Rattle.metrics.specs.Floats.{float_of}
 use Rattle.metrics.proofs.Nearing.{dist, cut, rounded, Few, near, minus_scale, which}
 
 abbrev unit : ℕ
@@ -336,6 +337,6 @@ finite_carries (fin a m e) (fin b n d) p q f l =
 
 pub carries : Carries
 carries s n y l h p f le =
-    let x = of_bits binary64 s.sum in
-    finite_carries x y (of_bits-fits binary64 s.sum) p f le
+    let x = float_of s.sum in
+    finite_carries x y (of_bits-fits binary64 s.sum.bits) p f le
     ∙ ap (λ (g : Bool). in_units x +ℤ in_units y +ℤ in_units (cond g (sub binary64 (sub binary64 (add binary64 x y) x) y) (of_bits binary64 0))) (sym f)

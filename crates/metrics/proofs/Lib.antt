@@ -2,5 +2,4 @@ pub mod Carrying
 pub mod Feeding
 pub mod Nearing
 pub mod Steps
-pub mod Storing
 pub mod Ties

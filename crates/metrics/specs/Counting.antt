@@ -24,11 +24,6 @@ number_laws = record {
   feeding = λ t v a. counted_is _ _ (omega arith);
 }
 
--- below the cap nothing is cut off
-pub same_count : (a b : ℕ) → a < 2 ^ 64 → b < 2 ^ 64 → Decides (a == b) (capped a ≡ capped b)
-same_count a b h k =
-    Decides-like (a == b) (λ e. ap capped e) (λ e. omega (arith, ap (λ c. c.count) e)) (Decides-eqb a b)
-
 -- by recursion, from any number on
 counts_on : (t : ColumnType) (vs : List ℕ) (c : Counted) → fed_all (λ _ _. one_more) t vs c ≡ capped (c.count + length vs)
 counts_on t [] c = counted_is _ _ (omega (arith, c.most))

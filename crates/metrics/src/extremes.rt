@@ -1,6 +1,7 @@
 //! The smallest and the largest value.
 ghost use Rattle.std.specs.Prelude.{◌≡◌, Some, None, Option};
 ghost use Rattle.metrics.specs.Ends.{Ends, widened, reaching, least_of, greatest_of, Reaches};
+ghost use Rattle.metrics.specs.Sameness.{same_ends};
 ghost use Rattle.metrics.specs.Widening.{widening_laws};
 
 use crate::exact::Exact;
@@ -9,7 +10,7 @@ use crate::tally::Tally;
 use records::column_type::ColumnType;
 
 /// The smallest and the largest of the values it was fed, as u64, or none.
-#[derive(Clone, Copy, Debug)]
+#[derive(Clone, Copy, Debug, PartialEq)]
 pub struct Extremes {
     ends: Option<(u64, u64)>,
 }
@@ -58,9 +59,7 @@ impl Tally for Extremes {
         self.ends = wider(self.ends, Some((val, val)));
     }
 
-    fn same(&self, other: &Extremes) -> bool {
-        self.ends == other.ends
-    }
+    ghost same = { λ x y. same_ends x.ends y.ends };
 }
 
 impl Joinable for Extremes {

@@ -1,7 +1,11 @@
 //! How many values there were.
-ghost use Rattle.std.specs.Prelude.{◌≡◌};
+ghost use Rattle.std.specs.Prelude.{◌≡◌, ◌==◌};
+ghost use Rattle.std.specs.Ordering.{on};
+ghost use Rattle.std.specs.Cmp.Rules.{comparing};
+ghost use Rattle.std.proofs.Common.{rules};
 ghost use Rattle.metrics.specs.Numbers.{Counted, capped, one_more, added, number_worth, Counts};
 ghost use Rattle.metrics.specs.Counting.{number_laws};
+ghost use Rattle.metrics.specs.Sameness.{same_number};
 
 use crate::exact::Exact;
 use crate::joinable::Joinable;
@@ -49,7 +53,15 @@ impl Tally for Number {
         *self = self.with(1);
     }
 
-    fn same(&self, other: &Number) -> bool {
+    ghost same = { same_number };
+}
+
+impl PartialEq for Number {
+    ghost eq = { on (λ n. (number_worth n).count) ◌==◌ };
+
+    ghost laws = { Prim.search (comparing, rules) };
+
+    fn eq(&self, other: &Number) -> bool {
         self.count == other.count
     }
 }
