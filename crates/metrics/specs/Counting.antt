@@ -1,10 +1,9 @@
 -- The laws of counting: two numbers of values are equal where their counts are, and a sum capped early or late is the same.
-use Rattle.std.specs.Prelude.{◌≡◌, ℕ, ◌+◌, ◌-◌, ◌^◌, ◌<◌, ◌≤◌, List, [], ◌∷◌, length, Decides, ◌==◌}
-use Rattle.std.proofs.Common.{ap, ◌∙◌, arith}
+use Rattle.std.specs.Prelude.{◌≡◌, ℕ, ◌+◌, ◌-◌, ◌^◌, ◌≤◌, List, [], ◌∷◌, length}
+use Rattle.std.proofs.Common.{◌∙◌, arith}
 use mathlib.Core.HLevel.{is_prop→PathP}
 use Rattle.std.proofs.Math.Bridge.{le_prop}
 use Rattle.records.specs.declared.column_type.ColumnType.{ColumnType}
-use Rattle.std.proofs.lemmas.Bool.Decides.{Decides-eqb, Decides-like}
 use Rattle.metrics.specs.Numbers.{Counted, capped, one_more, added, Counts}
 use Rattle.metrics.specs.Tallies.{Exactly, fed_all}
 
