@@ -12,6 +12,7 @@ use records::column_type::ColumnType;
 ///
 /// Its meaning is its own; `exact_stands` promises that it is that of the tally and of the joinable tally below.
 pub trait Exact: Joinable {
+    // A default sees no other member, so each impl says that these are those below.
     ghost Worth: { Type 0 };
 
     ghost worth: { Self → Worth };

@@ -35,11 +35,10 @@ impl Extremes {
 fn wider(ends: Option<(u64, u64)>, other: Option<(u64, u64)>) -> Option<(u64, u64)>
     ensures { result ≡ widened ends other }
 {
-    match (ends, other) {
-        (None, _) => other,
-        (_, None) => ends,
-        (Some((a, b)), Some((c, d))) => Some((a.min(c), b.max(d))),
-    }
+    ends.zip(other)
+        .map(|((a, b), (c, d))| (a.min(c), b.max(d)))
+        .or(ends)
+        .or(other)
 }
 
 impl Tally for Extremes {

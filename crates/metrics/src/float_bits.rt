@@ -32,6 +32,7 @@ impl From<FloatBits> for f64 {
     }
 }
 
+// By hand, since a derived `==` would tell patterns of a NaN apart.
 impl PartialEq for FloatBits {
     ghost eq = { on (λ b. (bits_of (float_of b)).bits) ◌==◌ };
 

@@ -8,6 +8,7 @@ use crate::tally::Tally;
 ///
 /// Its worth is the tally's, in a form of its own: `joinable_stands` promises that the two say the same.
 pub trait Joinable: Tally {
+    // A default sees no other member, so each impl says that these are the tally's.
     ghost Worth: { Type 0 };
 
     ghost worth: { Self → Worth };

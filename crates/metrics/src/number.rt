@@ -56,6 +56,7 @@ impl Tally for Number {
     ghost same = { same_number };
 }
 
+// By hand, since a law speaks of all of ℕ: a derived `==` would tell counts apart that are capped to one worth.
 impl PartialEq for Number {
     ghost eq = { on (λ n. (number_worth n).count) ◌==◌ };
 

@@ -210,6 +210,14 @@ mod tests {
     }
 
     #[test]
+    fn same_nan(rt: HostRuntime) {
+        let mut stats = IntermediateStats::empty();
+        stats.collect(f64::NAN);
+        assert!(rt; stats == stats);
+        assert!(rt; stats != IntermediateStats::empty());
+    }
+
+    #[test]
     fn fed_apart(rt: HostRuntime) {
         let tally: Extremes = feed_apart(ColumnType::U64, &[7, 3], &[9]);
         assert_eq!(rt; tally.least(), Some(3));

@@ -42,11 +42,20 @@ pub fn feed_all<T: Tally>(tally: &mut T, field_type: ColumnType, vals: &[u64])
 #[cfg(test)]
 mod tests {
     use super::*;
+    use crate::number::Number;
 
-    // That generic code learns from `==` whether two tallies are worth the same.
+    // Generic code learns from `==` whether two tallies are worth the same.
     fn are_same<T: Tally>(tally: &T, other: &T) -> bool
         ensures { Decides result (T.Tally.worth tally.now ≡ T.Tally.worth other.now) }
     {
         *tally == *other
+    }
+
+    #[test]
+    fn told_apart(rt: HostRuntime) {
+        let mut number = Number::empty();
+        assert!(rt; are_same(&number, &Number::empty()));
+        number.feed(ColumnType::U64, 7);
+        assert!(rt; !are_same(&number, &Number::empty()));
     }
 }
