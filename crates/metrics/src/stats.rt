@@ -122,7 +122,8 @@ fn kahan(sum: f64, y: f64) -> (f64, f64)
     }
 }
 
-/// The first float if it `stays` before the second, else the second; but the other one where one is a NaN.
+/// The first float if it `stays` beside the second, or if the second is a NaN; else the second.
+// std's `min` and `max` leave open which of two floats that compare equal they answer, as of -0 and +0.
 fn first_if<F: Fn(f64, f64) -> bool>(a: f64, b: f64, stays: F) -> f64
     requires { F.IsAlwaysCallable stays }
     ensures { (s : Bool) × F.post stays a b s × (result ≡ cond (s || is_nan b) a b) }
@@ -140,6 +141,7 @@ impl Tally for IntermediateStats {
     ghost fed = { λ t v s. collected s (number_of t v) };
 
     /// The stats of no value: the least is +∞, the greatest −∞.
+    #[tactic(auto, using(crate::proofs::Starting::starts))]
     fn empty() -> IntermediateStats {
         IntermediateStats {
             count: 0,
