@@ -1,6 +1,5 @@
 //! A float kept as bits.
-ghost use Rattle.std.specs.Prelude.{◌≡◌, ◌==◌, to_bits};
-ghost use Rattle.std.specs.Float.{binary64};
+ghost use Rattle.std.specs.Prelude.{◌≡◌, ◌==◌};
 ghost use Rattle.std.specs.Ordering.{on};
 ghost use Rattle.std.specs.Cmp.Rules.{comparing};
 ghost use Rattle.std.proofs.Common.{rules};
