@@ -10,10 +10,12 @@ use lib.Ieee.Nearest.{closest, closest_same}
 use lib.Ieee.Bits.{of_bits-fits}
 use lib.Ieee.Scale.{round_same}
 use Rattle.std.specs.Float.{float_is_finite}
+use Rattle.std.proofs.lemmas.Bool.{cases_lt}
 use Rattle.std.proofs.lemmas.Bool.Decides.{leb_tells}
 use Rattle.std.proofs.lemmas.Int.{ints}
 use Rattle.metrics.specs.Carry.{signed, in_units, Carries}
-use Rattle.metrics.proofs.Nearing.{dist, cut, rounded, Few, near, minus_scale, which}
+use Rattle.metrics.specs.Floats.{float_of}
+use Rattle.metrics.proofs.Nearing.{dist, cut, rounded, Few, near, minus_scale}
 
 abbrev unit : ℕ
 unit = 2 ^ low binary64
@@ -60,7 +62,7 @@ size_down l t m k le h =
     )
 
 below_pow : (a b : ℕ) → 2 ^ a ≤ 2 ^ b → a ≤ b
-below_pow a b h = ⊎_elim (λ l. l) (λ l. let p : 2 ^ b < 2 ^ a = pow-lt l in absurd (omega arith)) (which a b)
+below_pow a b h = ⊎_elim (λ l. let p : 2 ^ b < 2 ^ a = pow-lt l in absurd (omega arith)) (λ l. l) (cases_lt b a)
 
 nil_times : (a b c : ℕ) → 0 * a * b ≡ 0 * c
 nil_times a b c = omega arith
@@ -189,8 +191,8 @@ abs_signed true (suc n) = refl
 
 -- the distance of two numbers of one sign, with some sign
 gap : (b : Bool) (m n : ℕ) → (a : Bool) × (signed a (dist m n) ≡ signed b m +ℤ neg_ℤ (signed b n))
-gap false m n = ⊎_elim (λ h. (true, omega (arith, ints))) (λ h. (false, omega (arith, ints))) (which m n)
-gap true m n = ⊎_elim (λ h. (false, omega (arith, ints))) (λ h. (true, omega (arith, ints))) (which m n)
+gap false m n = ⊎_elim (λ h. (true, omega (arith, ints))) (λ h. (false, omega (arith, ints))) (cases_lt m n)
+gap true m n = ⊎_elim (λ h. (false, omega (arith, ints))) (λ h. (true, omega (arith, ints))) (cases_lt m n)
 
 -- the larger of two numbers lies the smaller away from their sum
 apart : (a b c : Bool) (s y n : ℕ) → y ≤ s → signed c n ≡ signed a s +ℤ signed b y → dist s n ≡ y
@@ -336,6 +338,6 @@ finite_carries (fin a m e) (fin b n d) p q f l =
 
 pub carries : Carries
 carries s n y l h p f le =
-    let x = of_bits binary64 s.sum in
-    finite_carries x y (of_bits-fits binary64 s.sum) p f le
+    let x = float_of s.sum in
+    finite_carries x y (of_bits-fits binary64 s.sum.bits) p f le
     ∙ ap (λ (g : Bool). in_units x +ℤ in_units y +ℤ in_units (cond g (sub binary64 (sub binary64 (add binary64 x y) x) y) (of_bits binary64 0))) (sym f)

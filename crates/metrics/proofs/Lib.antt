@@ -1,6 +1,6 @@
 pub mod Carrying
 pub mod Feeding
 pub mod Nearing
+pub mod Starting
 pub mod Steps
-pub mod Storing
 pub mod Ties

@@ -1,6 +1,6 @@
 -- Numbers rounded to 53 digits: a sum of two such numbers, rounded, differs from the larger of them and from the exact sum
 -- by such numbers. Nothing here is about floats.
-use Rattle.std.proofs.Common.{◌≡◌, ℕ, zero, suc, ◌+◌, ◌-◌, ◌*◌, ◌/◌, ◌%◌, ◌^◌, ◌<◌, ◌≤◌, not, T, eqb, ◌⊎◌, sym, refl, ap, ◌∙◌, subst, ap₂, inl, inr, ⊎_elim, le_trans, le_of_eq, lt_of_le_of_lt, mul-le-mul_right, mod-lt, mul_assoc, suc-mul, mul_comm, add-mul, mul-le-mul_left, mul-pos, pow-suc, div-add-mod', le_of_mul-le-mul_right, arith, lit<, eqb→eq, leb→le, pow_pos, pow_mono, pow-add}
+use Rattle.std.proofs.Common.{◌≡◌, ℕ, zero, suc, ◌+◌, ◌-◌, ◌*◌, ◌/◌, ◌%◌, ◌^◌, ◌<◌, ◌≤◌, not, T, eqb, ◌⊎◌, sym, refl, ap, ◌∙◌, subst, ap₂, inl, inr, le_trans, le_of_eq, lt_of_le_of_lt, mul-le-mul_right, mod-lt, mul_assoc, suc-mul, mul_comm, add-mul, mul-le-mul_left, mul-pos, pow-suc, div-add-mod', le_of_mul-le-mul_right, arith, lit<, eqb→eq, leb→le, pow_pos, pow_mono, pow-add}
 use Prim.Native.Nat.{compare, Ordering}
 use native.Mathlib.Nat.{mul-sub, eq_of_mul-eq-mul_right}
 use lib.Arith.{lt_of_le-ne}
@@ -8,7 +8,7 @@ use lib.Dec.{is_le, compare_is_eq, nleb→lt, eqb_refl}
 use lib.Ieee.{size, nearest}
 use lib.Ieee.Digits.{size_reaches}
 use lib.Ieee.Nearest.{closest, closest_same}
-use Rattle.std.proofs.lemmas.Bool.Decides.{leb_tells}
+use Rattle.std.proofs.lemmas.Bool.{cases_lt, cases_order}
 
 -- how far apart two numbers are
 abbrev pub dist : ℕ → ℕ → ℕ
@@ -27,9 +27,6 @@ pub record Few (n : ℕ) : Type 0 where
   pub j : ℕ
   pub small : q < 2 ^ 53
   pub is : n ≡ q * 2 ^ j
-
-pub which : (a b : ℕ) → (a ≤ b) ⊎ (b < a)
-which a b = ⊎_elim (λ h. inl h.1) (λ h. inr h.1) (leb_tells a b)
 
 -- ---- what `compare` says
 abbrev Cmp : Ordering → ℕ → ℕ → Type 0
@@ -61,19 +58,16 @@ within n w q r Ordering.gt e l c =
 closest_within : (n w : ℕ) → 0 < w → (2 * (closest n w * w) ≤ 2 * n + w) × (2 * n ≤ 2 * (closest n w * w) + w)
 closest_within n w h = within n w (n / w) (n % w) (compare (n % w * 2) w) (div-add-mod' n w) (mod-lt n h) (cmp (n % w * 2) w)
 
-three : (a b : ℕ) → (a < b) ⊎ ((a ≡ b) ⊎ (b < a))
-three a b = ⊎_elim inl (λ h. inr (⊎_elim (λ k. inr k) (λ k. inl (omega arith)) (which (suc b) a))) (which (suc a) b)
-
 -- so no multiple is nearer
 no_nearer : (n w j : ℕ) → 0 < w → dist (closest n w * w) n ≤ dist (j * w) n
-no_nearer n w j h = let b = closest_within n w h in go (closest n w) b.0 b.1 (three j (closest n w))
+no_nearer n w j h = let b = closest_within n w h in go (closest n w) b.0 b.1 (cases_order j (closest n w))
   where
-    go : (c : ℕ) → 2 * (c * w) ≤ 2 * n + w → 2 * n ≤ 2 * (c * w) + w → (j < c) ⊎ ((j ≡ c) ⊎ (c < j)) → dist (c * w) n ≤ dist (j * w) n
-    go c p q (inl l) =
+    go : (c : ℕ) → 2 * (c * w) ≤ 2 * n + w → 2 * n ≤ 2 * (c * w) + w → (j ≡ c) ⊎ ((j < c) ⊎ (c < j)) → dist (c * w) n ≤ dist (j * w) n
+    go c p q (inr (inl l)) =
         let a : suc j * w ≤ c * w = mul-le-mul_right w l in
         let b = suc-mul j w in
         omega arith
-    go c p q (inr (inl e)) = le_of_eq (ap (λ (z : ℕ). dist (z * w) n) (sym e))
+    go c p q (inl e) = le_of_eq (ap (λ (z : ℕ). dist (z * w) n) (sym e))
     go c p q (inr (inr l)) =
         let a : suc c * w ≤ j * w = mul-le-mul_right w l in
         let b = suc-mul c w in
@@ -110,11 +104,11 @@ reaches m c i e =
 -- summand or the least number of that size is a multiple too; and by half a multiple at most.
 module _ (q d y n i : ℕ) (few : q < 2 ^ 53) (apart : dist (q * 2 ^ d) n ≡ y) (big : 2 ^ 52 * 2 ^ suc i ≤ n) where
   by-y : dist (closest n (2 ^ suc i) * 2 ^ suc i) n ≤ y
-  by-y = go (which (suc i) d)
+  by-y = go (cases_lt i d)
     where
-      go : (suc i ≤ d) ⊎ (d < suc i) → dist (closest n (2 ^ suc i) * 2 ^ suc i) n ≤ y
+      go : (i < d) ⊎ (d ≤ i) → dist (closest n (2 ^ suc i) * 2 ^ suc i) n ≤ y
       go (inl h) =
-          let l : suc i ≤ d = h in
+          let l : i < d = h in
           let j : q * 2 ^ d ≡ q * 2 ^ (d - suc i) * 2 ^ suc i = ap (λ (z : ℕ). q * 2 ^ z) (omega arith) ∙ ap (λ (z : ℕ). q * z) (pow-add 2 (d - suc i) (suc i)) ∙ sym (mul_assoc q (2 ^ (d - suc i)) (2 ^ suc i)) in
           le_trans (no_nearer n (2 ^ suc i) (q * 2 ^ (d - suc i)) (pow_pos (suc i))) (le_of_eq (ap (λ (z : ℕ). dist z n) (sym j) ∙ apart))
       go (inr h) =
@@ -141,9 +135,9 @@ rise q zero y n i c few small below apart big =
     let a = by-y q zero y n i few apart big in
     let b = by-half q zero y n i few apart big in
     let e : 2 ^ suc i ≡ 2 ^ i * 2 = pow-suc 2 i in
-    go (dist t (q * 1)) (omega arith) (which (suc (dist t (q * 1))) (2 ^ 53))
+    go (dist t (q * 1)) (omega arith) (cases_lt (dist t (q * 1)) (2 ^ 53))
   where
-    go : (x : ℕ) → x ≤ 2 ^ 53 → (suc x ≤ 2 ^ 53) ⊎ (2 ^ 53 < suc x) → Few (x * 2 ^ c)
+    go : (x : ℕ) → x ≤ 2 ^ 53 → (x < 2 ^ 53) ⊎ (2 ^ 53 ≤ x) → Few (x * 2 ^ c)
     go x h (inl l) = record { q = x; j = c; small = l; is = refl }
     go x h (inr l) = record { q = 2 ^ 52; j = suc c; small = lit< tt; is = ap (λ (z : ℕ). z * 2 ^ c) (omega (arith, l)) ∙ double (2 ^ 52) c }
 rise q (suc d) y n i c few small below apart big =
@@ -160,9 +154,9 @@ Nearing n s y t = Few (dist t s) × Few (dist t n) × (dist t n ≤ y)
 
 -- either the sum is rounded to a coarser unit, or it is exact
 near_scaled : (c q d y n : ℕ) → q < 2 ^ 53 → y < 2 ^ 53 → y ≤ q * 2 ^ d → dist (q * 2 ^ d) n ≡ y → Nearing (n * 2 ^ c) (q * 2 ^ d * 2 ^ c) (y * 2 ^ c) (rounded (n * 2 ^ c))
-near_scaled c q d y n few small below apart = go (which (suc c) (cut (n * 2 ^ c)))
+near_scaled c q d y n few small below apart = go (cases_lt c (cut (n * 2 ^ c)))
   where
-    go : (suc c ≤ cut (n * 2 ^ c)) ⊎ (cut (n * 2 ^ c) < suc c) → Nearing (n * 2 ^ c) (q * 2 ^ d * 2 ^ c) (y * 2 ^ c) (rounded (n * 2 ^ c))
+    go : (c < cut (n * 2 ^ c)) ⊎ (cut (n * 2 ^ c) ≤ c) → Nearing (n * 2 ^ c) (q * 2 ^ d * 2 ^ c) (y * 2 ^ c) (rounded (n * 2 ^ c))
     go (inl l) =
         let i = cut (n * 2 ^ c) - suc c in
         let e : cut (n * 2 ^ c) ≡ c + suc i = omega (arith, l) in
@@ -187,7 +181,7 @@ near_scaled c q d y n few small below apart = go (which (suc c) (cut (n * 2 ^ c)
 
 -- the summands in a common unit
 near_at : (s y n c q d z : ℕ) → q < 2 ^ 53 → z < 2 ^ 53 → s ≡ q * 2 ^ d * 2 ^ c → y ≡ z * 2 ^ c → y ≤ s → dist s n ≡ y → Nearing n s y (rounded n)
-near_at s y n c q d z few small es ey below apart = go (which s n)
+near_at s y n c q d z few small es ey below apart = go (cases_lt n s)
   where
     with-units : (m : ℕ) → n ≡ m * 2 ^ c → Nearing n s y (rounded n)
     with-units m e =
@@ -198,22 +192,22 @@ near_at s y n c q d z few small es ey below apart = go (which s n)
         (subst (λ (x : ℕ). Nearing (m * 2 ^ c) x y (rounded (m * 2 ^ c))) (sym es)
         (subst (λ (x : ℕ). Nearing (m * 2 ^ c) (q * 2 ^ d * 2 ^ c) x (rounded (m * 2 ^ c))) (sym ey) at))
 
-    go : (s ≤ n) ⊎ (n < s) → Nearing n s y (rounded n)
-    go (inl l) = with-units (q * 2 ^ d + z) (let e : n ≡ s + y = omega (arith, l) in e ∙ ap₂ (λ a b. a + b) es ey ∙ sym (add-mul (q * 2 ^ d) z (2 ^ c)))
-    go (inr l) = with-units (q * 2 ^ d - z) (let e : n ≡ s - y = omega (arith, l) in e ∙ ap₂ (λ a b. a - b) es ey ∙ sym (minus_scale (q * 2 ^ d) z (2 ^ c)))
+    go : (n < s) ⊎ (s ≤ n) → Nearing n s y (rounded n)
+    go (inr l) = with-units (q * 2 ^ d + z) (let e : n ≡ s + y = omega (arith, l) in e ∙ ap₂ (λ a b. a + b) es ey ∙ sym (add-mul (q * 2 ^ d) z (2 ^ c)))
+    go (inl l) = with-units (q * 2 ^ d - z) (let e : n ≡ s - y = omega (arith, l) in e ∙ ap₂ (λ a b. a - b) es ey ∙ sym (minus_scale (q * 2 ^ d) z (2 ^ c)))
 
 shift : (q a c : ℕ) → c ≤ a → q * 2 ^ a ≡ q * 2 ^ (a - c) * 2 ^ c
 shift q a c h = ap (λ (z : ℕ). q * 2 ^ z) (omega arith) ∙ ap (λ (z : ℕ). q * z) (pow-add 2 (a - c) c) ∙ sym (mul_assoc q (2 ^ (a - c)) (2 ^ c))
 
 pub near : (s y n : ℕ) → Few s → Few y → y ≤ s → dist s n ≡ y → Nearing n s y (rounded n)
-near s y n rs ry below apart = go (which rs.j ry.j)
+near s y n rs ry below apart = go (cases_lt ry.j rs.j)
   where
-    go : (rs.j ≤ ry.j) ⊎ (ry.j < rs.j) → Nearing n s y (rounded n)
-    go (inl l) =
+    go : (ry.j < rs.j) ⊎ (rs.j ≤ ry.j) → Nearing n s y (rounded n)
+    go (inr l) =
         let z = ry.q * 2 ^ (ry.j - rs.j) in
         let ey : y ≡ z * 2 ^ rs.j = ry.is ∙ shift ry.q ry.j rs.j l in
         let es : s ≡ rs.q * 2 ^ 0 * 2 ^ rs.j = rs.is ∙ ap (λ (x : ℕ). x * 2 ^ rs.j) (omega arith) in
         let le : z ≤ rs.q = le_of_mul-le-mul_right (le_trans (le_of_eq (sym ey)) (le_trans below (le_of_eq rs.is))) (pow_pos rs.j) in
         near_at s y n rs.j rs.q 0 z rs.small (lt_of_le_of_lt le rs.small) es ey below apart
-    go (inr l) =
+    go (inl l) =
         near_at s y n ry.j rs.q (rs.j - ry.j) ry.q rs.small ry.small (rs.is ∙ shift rs.q rs.j ry.j (omega (arith, l))) ry.is below apart

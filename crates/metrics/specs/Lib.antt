@@ -1,6 +1,8 @@
 pub mod Carry
 pub mod Ends
+pub mod Floats
 pub mod Numbers
+pub mod Sameness
 pub mod StatsLaws
 pub mod Sums
 pub mod Tallies

@@ -1,7 +1,8 @@
 -- A running sum with its compensation, on the numbers themselves, and how IntermediateStats keeps them as bits.
-use Rattle.std.specs.Prelude.{ℕ, ◌+◌, ◌-◌, ◌^◌, min, true, false, cond, pos, Some, None, Option, ◌==◌, from_bits, to_bits, Float}
+use Rattle.std.specs.Prelude.{ℕ, ◌+◌, ◌-◌, ◌^◌, min, true, false, cond, pos, Some, None, Option, ◌==◌, from_bits, Float}
 use Rattle.std.specs.Float.Ieee.{add, sub, div, of_int}
 use Rattle.std.specs.Float.{float_is_finite, float_min, float_max, inf, binary64}
+use Rattle.metrics.specs.Floats.{float_of, bits_of}
 use Rattle.metrics.specs.declared.stats.IntermediateStats.{IntermediateStats}
 use Rattle.metrics.specs.declared.stats.Stats.{Stats}
 
@@ -53,7 +54,7 @@ finalized s = record { count = s.count; sum = s.sum; min = if_any s s.low; max =
 
 -- the numbers that the bits stand for: any NaN is one
 abbrev pub stats_worth : IntermediateStats → Sums
-stats_worth s = record { count = s.count; sum = from_bits binary64 s.sum; delta = from_bits binary64 s.delta; low = from_bits binary64 s.min; high = from_bits binary64 s.max }
+stats_worth s = record { count = s.count; sum = float_of s.sum; delta = float_of s.delta; low = float_of s.min; high = float_of s.max }
 
 abbrev pub stored : Sums → IntermediateStats
-stored s = record { count = s.count; sum = to_bits binary64 s.sum; delta = to_bits binary64 s.delta; min = to_bits binary64 s.low; max = to_bits binary64 s.high }
+stored s = record { count = s.count; sum = bits_of s.sum; delta = bits_of s.delta; min = bits_of s.low; max = bits_of s.high }

@@ -12,6 +12,7 @@ use records::column_type::ColumnType;
 ///
 /// Its meaning is its own; `exact_stands` promises that it is that of the tally and of the joinable tally below.
 pub trait Exact: Joinable {
+    // A default sees no other member, so each impl says that these are those below.
     ghost Worth: { Type 0 };
 
     ghost worth: { Self → Worth };
@@ -23,7 +24,7 @@ pub trait Exact: Joinable {
     ghost joined: { Worth → Worth → Worth };
 
     /// That worth, feeding and joining are those of the traits below.
-    fn exact_stands() -> u8
+    fn exact_stands()
         ensures { SameRules Self.Tally.worth Self.Tally.nothing Self.Tally.fed Self.Joinable.worth Self.Joinable.joined worth nothing fed joined };
 
     ghost laws: { Exactly nothing fed joined };
@@ -31,10 +32,10 @@ pub trait Exact: Joinable {
 
 /// That the laws hold in the words of the traits below: a tally's worths can be joined, as the joinable tally joins
 /// them, with the laws of an exact one.
-pub fn exact_below_stands<T: Exact>() -> u8
+pub fn exact_below_stands<T: Exact>()
     ensures { ExactBelow T.Tally.worth T.Tally.nothing T.Tally.fed T.Joinable.worth T.Joinable.joined }
 {
-    T::exact_stands()
+    T::exact_stands();
 }
 
 /// A tally of two lists of values, fed to two tallies that are then merged: worth what one tally is worth that was fed
@@ -48,6 +49,6 @@ pub fn feed_apart<T: Exact>(field_type: ColumnType, xs: &[u64], ys: &[u64]) -> T
     let mut other = T::empty();
     feed_all(&mut other, field_type, ys);
     tally.merge_fruits(&other);
-    let _ = exact_below_stands::<T>();
+    exact_below_stands::<T>();
     tally
 }

@@ -1,6 +1,7 @@
 //! The smallest and the largest value.
 ghost use Rattle.std.specs.Prelude.{◌≡◌, Some, None, Option};
 ghost use Rattle.metrics.specs.Ends.{Ends, widened, reaching, least_of, greatest_of, Reaches};
+ghost use Rattle.metrics.specs.Sameness.{same_ends};
 ghost use Rattle.metrics.specs.Widening.{widening_laws};
 
 use crate::exact::Exact;
@@ -9,7 +10,7 @@ use crate::tally::Tally;
 use records::column_type::ColumnType;
 
 /// The smallest and the largest of the values it was fed, as u64, or none.
-#[derive(Clone, Copy, Debug)]
+#[derive(Clone, Copy, Debug, PartialEq)]
 pub struct Extremes {
     ends: Option<(u64, u64)>,
 }
@@ -19,20 +20,14 @@ impl Extremes {
     pub fn least(&self) -> Option<u64>
         ensures { result ≡ least_of self.now.ends }
     {
-        match self.ends {
-            Some((least, _)) => Some(least),
-            None => None,
-        }
+        self.ends.map(|(least, _)| least)
     }
 
     /// The largest value, or none.
     pub fn greatest(&self) -> Option<u64>
         ensures { result ≡ greatest_of self.now.ends }
     {
-        match self.ends {
-            Some((_, greatest)) => Some(greatest),
-            None => None,
-        }
+        self.ends.map(|(_, greatest)| greatest)
     }
 }
 
@@ -40,11 +35,10 @@ impl Extremes {
 fn wider(ends: Option<(u64, u64)>, other: Option<(u64, u64)>) -> Option<(u64, u64)>
     ensures { result ≡ widened ends other }
 {
-    match (ends, other) {
-        (None, _) => other,
-        (_, None) => ends,
-        (Some((a, b)), Some((c, d))) => Some((a.min(c), b.max(d))),
-    }
+    ends.zip(other)
+        .map(|((a, b), (c, d))| (a.min(c), b.max(d)))
+        .or(ends)
+        .or(other)
 }
 
 impl Tally for Extremes {
@@ -64,9 +58,7 @@ impl Tally for Extremes {
         self.ends = wider(self.ends, Some((val, val)));
     }
 
-    fn same(&self, other: &Extremes) -> bool {
-        self.ends == other.ends
-    }
+    ghost same = { λ x y. same_ends x.ends y.ends };
 }
 
 impl Joinable for Extremes {
@@ -80,9 +72,7 @@ impl Joinable for Extremes {
         self.ends = wider(self.ends, other.ends);
     }
 
-    fn joinable_stands() -> u8 {
-        0
-    }
+    fn joinable_stands() {}
 }
 
 impl Exact for Extremes {
@@ -98,14 +88,10 @@ impl Exact for Extremes {
 
     ghost laws = { widening_laws };
 
-    fn exact_stands() -> u8 {
-        0
-    }
+    fn exact_stands() {}
 }
 
 /// Extremes are worth two of the values they were fed, with every one between them, or none where they were fed none.
-pub fn extremes_stand() -> u8
+pub fn extremes_stand()
     ensures { Reaches }
-{
-    0
-}
+{}

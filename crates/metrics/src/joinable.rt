@@ -8,6 +8,7 @@ use crate::tally::Tally;
 ///
 /// Its worth is the tally's, in a form of its own: `joinable_stands` promises that the two say the same.
 pub trait Joinable: Tally {
+    // A default sees no other member, so each impl says that these are the tally's.
     ghost Worth: { Type 0 };
 
     ghost worth: { Self → Worth };
@@ -20,6 +21,6 @@ pub trait Joinable: Tally {
         ensures { worth self.new ≡ joined (worth self.old) (worth other.now) };
 
     /// That this worth and the tally's say the same.
-    fn joinable_stands() -> u8
+    fn joinable_stands()
         ensures { SameWorth Self.Tally.worth worth };
 }

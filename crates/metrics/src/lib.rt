@@ -4,6 +4,7 @@
 
 pub mod exact;
 pub mod extremes;
+mod float_bits;
 pub mod joinable;
 pub mod number;
 pub mod stats;

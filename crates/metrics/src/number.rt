@@ -1,7 +1,11 @@
 //! How many values there were.
-ghost use Rattle.std.specs.Prelude.{◌≡◌};
+ghost use Rattle.std.specs.Prelude.{◌≡◌, ◌==◌};
+ghost use Rattle.std.specs.Ordering.{on};
+ghost use Rattle.std.specs.Cmp.Rules.{comparing};
+ghost use Rattle.std.proofs.Common.{rules};
 ghost use Rattle.metrics.specs.Numbers.{Counted, capped, one_more, added, number_worth, Counts};
 ghost use Rattle.metrics.specs.Counting.{number_laws};
+ghost use Rattle.metrics.specs.Sameness.{same_number};
 
 use crate::exact::Exact;
 use crate::joinable::Joinable;
@@ -49,7 +53,16 @@ impl Tally for Number {
         *self = self.with(1);
     }
 
-    fn same(&self, other: &Number) -> bool {
+    ghost same = { same_number };
+}
+
+// By hand, since a law speaks of all of ℕ: a derived `==` would tell counts apart that are capped to one worth.
+impl PartialEq for Number {
+    ghost eq = { on (λ n. (number_worth n).count) ◌==◌ };
+
+    ghost laws = { Prim.search (comparing, rules) };
+
+    fn eq(&self, other: &Number) -> bool {
         self.count == other.count
     }
 }
@@ -65,9 +78,7 @@ impl Joinable for Number {
         *self = self.with(other.count);
     }
 
-    fn joinable_stands() -> u8 {
-        0
-    }
+    fn joinable_stands() {}
 }
 
 impl Exact for Number {
@@ -83,14 +94,10 @@ impl Exact for Number {
 
     ghost laws = { number_laws };
 
-    fn exact_stands() -> u8 {
-        0
-    }
+    fn exact_stands() {}
 }
 
 /// A Number is worth how many values it was fed, at most 2^64 − 1.
-pub fn number_stands() -> u8
+pub fn number_stands()
     ensures { Counts }
-{
-    0
-}
+{}

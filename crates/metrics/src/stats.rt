@@ -1,17 +1,19 @@
 //! Count, compensated sum, least and greatest of the values as numbers.
-ghost use Rattle.std.specs.Prelude.{◌≡◌, Decides, from_bits};
-ghost use Rattle.std.specs.Float.{binary64, float_min, float_max};
+ghost use Rattle.std.specs.Prelude.{◌≡◌, Bool, cond, ◌||◌, is_nan};
+ghost use Rattle.std.specs.Float.{binary64};
 ghost use Rattle.std.specs.Float.Ieee.{add, sub};
 ghost use Rattle.metrics.specs.Sums.{Sums, no_sums, excess, advanced, collected, merged, stats_worth, stored, mean, finalized};
 ghost use Rattle.numbers.specs.Columns.{number_of};
 ghost use Rattle.metrics.specs.Carry.{Carried, Carries};
+ghost use Rattle.metrics.specs.Sameness.{same_stats};
 ghost use Rattle.metrics.specs.StatsLaws.{Worked, StatsLaws};
 
+use crate::float_bits::FloatBits;
 use crate::joinable::Joinable;
 use crate::tally::Tally;
 use numbers::fast_field::f64_from_fastfield_u64;
 use records::column_type::ColumnType;
-use std::num::{f64_from_bits_with_nan, f64_to_bits_with_nan, nearest_u64_to_f64};
+use std::num::nearest_u64_to_f64;
 
 /// The statistics of the values, for printing.
 #[derive(Clone, Copy, Debug)]
@@ -32,19 +34,19 @@ pub struct Stats {
 /// values, so it is joinable and no more.
 ///
 /// Floats are kept as bits, any NaN as one pattern.
-#[derive(Clone, Copy, Debug)]
+#[derive(Clone, Copy, Debug, PartialEq)]
 pub struct IntermediateStats {
     /// The number of values, at most 2^64 − 1.
     count: u64,
     /// The sum of the values.
-    sum: u64,
+    sum: FloatBits,
     /// What the last addition added to the sum beyond what was to be added
     /// ([Kahan summation](https://en.wikipedia.org/wiki/Kahan_summation_algorithm)).
-    delta: u64,
+    delta: FloatBits,
     /// The least value.
-    min: u64,
+    min: FloatBits,
     /// The greatest value.
-    max: u64,
+    max: FloatBits,
 }
 
 impl IntermediateStats {
@@ -59,37 +61,26 @@ impl IntermediateStats {
     pub fn sum(&self) -> f64
         ensures { result ≡ (stats_worth self.now).sum }
     {
-        f64_from_bits_with_nan(self.sum)
+        f64::from(self.sum)
     }
 
     /// The average of the values. `None` if there is none.
     pub fn avg(&self) -> Option<f64>
         ensures { result ≡ mean (stats_worth self.now) }
     {
-        if self.count == 0 {
-            None
-        } else {
-            Some(self.sum() / nearest_u64_to_f64(self.count))
-        }
+        (self.count > 0).then(|| self.sum() / nearest_u64_to_f64(self.count))
     }
 
     /// Computes the final stats value.
     pub fn finalize(&self) -> Stats
         ensures { result ≡ finalized (stats_worth self.now) }
     {
-        let (min, max) = if self.count == 0 {
-            (None, None)
-        } else {
-            (
-                Some(f64_from_bits_with_nan(self.min)),
-                Some(f64_from_bits_with_nan(self.max)),
-            )
-        };
+        let any = self.count > 0;
         Stats {
             count: self.count,
             sum: self.sum(),
-            min,
-            max,
+            min: any.then_some(f64::from(self.min)),
+            max: any.then_some(f64::from(self.max)),
             avg: self.avg(),
         }
     }
@@ -100,7 +91,7 @@ impl IntermediateStats {
         ensures read { stats_worth self.new ≡ collected (stats_worth self.old) value }
         ensures carried { Carried (stats_worth self.old) (sub binary64 value (stats_worth self.old).delta) (stats_worth self.new) }
     {
-        let y = value - f64_from_bits_with_nan(self.delta);
+        let y = value - f64::from(self.delta);
         self.advance(1, y, value, value);
     }
 
@@ -112,10 +103,10 @@ impl IntermediateStats {
     {
         let (sum, delta) = kahan(self.sum(), y);
         self.count = self.count.saturating_add(count);
-        self.sum = f64_to_bits_with_nan(sum);
-        self.delta = f64_to_bits_with_nan(delta);
-        self.min = f64_to_bits_with_nan(least(f64_from_bits_with_nan(self.min), min));
-        self.max = f64_to_bits_with_nan(greatest(f64_from_bits_with_nan(self.max), max));
+        self.sum = FloatBits::from(sum);
+        self.delta = FloatBits::from(delta);
+        self.min = FloatBits::from(first_if(f64::from(self.min), min, |a, b| a <= b));
+        self.max = FloatBits::from(first_if(f64::from(self.max), max, |a, b| a >= b));
     }
 }
 
@@ -131,26 +122,13 @@ fn kahan(sum: f64, y: f64) -> (f64, f64)
     }
 }
 
-/// The lesser of two floats: the other one where one is a NaN, and the first where they compare equal, as -0 and +0.
-fn least(a: f64, b: f64) -> f64
-    ensures { result ≡ float_min a b }
+/// The first float if it `stays` beside the second, or if the second is a NaN; else the second.
+// std's `min` and `max` leave open which of two floats that compare equal they answer, as of -0 and +0.
+fn first_if<F: Fn(f64, f64) -> bool>(a: f64, b: f64, stays: F) -> f64
+    requires { F.IsAlwaysCallable stays }
+    ensures { (s : Bool) × F.post stays a b s × (result ≡ cond (s || is_nan b) a b) }
 {
-    if a <= b || b.is_nan() { a } else { b }
-}
-
-/// The greater of two floats: the other one where one is a NaN, and the first where they compare equal.
-fn greatest(a: f64, b: f64) -> f64
-    ensures { result ≡ float_max a b }
-{
-    if a >= b || b.is_nan() { a } else { b }
-}
-
-/// Whether two patterns stand for the same float; any NaN is one.
-fn same_float(a: u64, b: u64) -> bool
-    ensures { Decides result (from_bits binary64 a ≡ from_bits binary64 b) }
-{
-    f64_to_bits_with_nan(f64_from_bits_with_nan(a))
-        == f64_to_bits_with_nan(f64_from_bits_with_nan(b))
+    if stays(a, b) || b.is_nan() { a } else { b }
 }
 
 impl Tally for IntermediateStats {
@@ -163,13 +141,14 @@ impl Tally for IntermediateStats {
     ghost fed = { λ t v s. collected s (number_of t v) };
 
     /// The stats of no value: the least is +∞, the greatest −∞.
+    #[tactic(auto, using(crate::proofs::Starting::starts))]
     fn empty() -> IntermediateStats {
         IntermediateStats {
             count: 0,
-            sum: 0,
-            delta: 0,
-            min: 0x7ff0_0000_0000_0000,
-            max: 0xfff0_0000_0000_0000,
+            sum: FloatBits::from(0.0),
+            delta: FloatBits::from(0.0),
+            min: FloatBits::from(f64::INFINITY),
+            max: FloatBits::from(f64::NEG_INFINITY),
         }
     }
 
@@ -178,13 +157,7 @@ impl Tally for IntermediateStats {
         self.collect(f64_from_fastfield_u64(val, field_type));
     }
 
-    fn same(&self, other: &IntermediateStats) -> bool {
-        self.count == other.count
-            && same_float(self.sum, other.sum)
-            && same_float(self.delta, other.delta)
-            && same_float(self.min, other.min)
-            && same_float(self.max, other.max)
-    }
+    ghost same = { same_stats };
 }
 
 impl Joinable for IntermediateStats {
@@ -195,42 +168,28 @@ impl Joinable for IntermediateStats {
     ghost joined = { merged };
 
     fn merge_fruits(&mut self, other: &IntermediateStats) {
-        let y = other.sum()
-            - (f64_from_bits_with_nan(self.delta) + f64_from_bits_with_nan(other.delta));
-        self.advance(
-            other.count,
-            y,
-            f64_from_bits_with_nan(other.min),
-            f64_from_bits_with_nan(other.max),
-        );
+        let y = other.sum() - (f64::from(self.delta) + f64::from(other.delta));
+        self.advance(other.count, y, f64::from(other.min), f64::from(other.max));
     }
 
-    fn joinable_stands() -> u8 {
-        0
-    }
+    fn joinable_stands() {}
 }
 
 /// The worked cases: 2^53, 1 and 1 sum to 2^53 + 2, and after +∞ and 1 the sum is +∞ and the least 1.
-pub fn stats_stand() -> u8
+pub fn stats_stand()
     ensures { Worked }
-{
-    0
-}
+{}
 
 /// A NaN changes neither the least nor the greatest, of −0.0 and +0.0 the earlier stays, and a sum that is not finite has
 /// compensation 0.
-pub fn stats_laws_stand() -> u8
+pub fn stats_laws_stand()
     ensures { StatsLaws }
-{
-    0
-}
+{}
 
 /// What an addition rounds off is carried in the compensation, in a merging too.
-pub fn compensation_stands() -> u8
+pub fn compensation_stands()
     ensures { Carries }
-{
-    0
-}
+{}
 
 #[cfg(test)]
 mod tests {
@@ -250,6 +209,14 @@ mod tests {
         assert!(rt; end.sum == 9_007_199_254_740_994.0);
         assert_eq!(rt; end.min, Some(1.0));
         assert_eq!(rt; stats.count(), 3);
+    }
+
+    #[test]
+    fn same_nan(rt: HostRuntime) {
+        let mut stats = IntermediateStats::empty();
+        stats.collect(f64::NAN);
+        assert!(rt; stats == stats);
+        assert!(rt; stats != IntermediateStats::empty());
     }
 
     #[test]

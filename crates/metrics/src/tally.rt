@@ -7,7 +7,7 @@ use records::column_type::ColumnType;
 
 /// What is kept of the values fed into it. Two tallies of equal worth are the same tally, whatever they hold.
 /// Feeding never refuses.
-pub trait Tally: Copy {
+pub trait Tally: Copy + PartialEq {
     ghost Worth: { Type 0 };
 
     ghost worth: { Self → Worth };
@@ -26,9 +26,8 @@ pub trait Tally: Copy {
     fn feed(&mut self, field_type: ColumnType, val: u64)
         ensures { worth self.new ≡ fed field_type val (worth self.old) };
 
-    /// Whether two tallies are worth the same.
-    fn same(&self, other: &Self) -> bool
-        ensures { Decides result (worth self.now ≡ worth other.now) };
+    /// `==` tells whether two tallies are worth the same.
+    ghost same: { (x y : Self) → Decides (Self.eq x y) (worth x ≡ worth y) };
 }
 
 /// Feeds a tally each of the values, first to last.
@@ -37,5 +36,26 @@ pub fn feed_all<T: Tally>(tally: &mut T, field_type: ColumnType, vals: &[u64])
 {
     for val in vals {
         tally.feed(field_type, *val);
+    }
+}
+
+#[cfg(test)]
+mod tests {
+    use super::*;
+    use crate::number::Number;
+
+    // Generic code learns from `==` whether two tallies are worth the same.
+    fn are_same<T: Tally>(tally: &T, other: &T) -> bool
+        ensures { Decides result (T.Tally.worth tally.now ≡ T.Tally.worth other.now) }
+    {
+        *tally == *other
+    }
+
+    #[test]
+    fn told_apart(rt: HostRuntime) {
+        let mut number = Number::empty();
+        assert!(rt; are_same(&number, &Number::empty()));
+        number.feed(ColumnType::U64, 7);
+        assert!(rt; !are_same(&number, &Number::empty()));
     }
 }

@@ -1,25 +1,10 @@
-use Rattle.std.proofs.Common.{◌≡◌, true, sym, ap, ◌∙◌, subst, rules}
+use Rattle.std.proofs.Common.{◌≡◌, true, rules}
+use Rattle.std.specs.Bool.{passes}
 use lib.Ieee.{binary64, fits}
-use Rattle.metrics.specs.Carry.{Carried}
-use Rattle.metrics.specs.Sums.{Sums, advanced, stats_worth, stored}
 use Rattle.metrics.proofs.Carrying.{carries}
-use Rattle.metrics.proofs.Storing.{holds, read_back}
 use Rattle.metrics.proofs.stats.IntermediateStats.advance.Goals as goal
 
-pub returns : goal.returns
-returns c =
-    let s = c.args.self.now in
-    let n = c.args.count in
-    let y = c.args.y in
-    let l = c.args.min in
-    let h = c.args.max in
-    let added : fits binary64 y ≡ true = search rules in
-    let low : fits binary64 l ≡ true = search rules in
-    let high : fits binary64 h ≡ true = search rules in
-    let kept : _ ≡ stored (advanced (stats_worth s) n y l h) = search rules in
-    let read : _ ≡ advanced (stats_worth s) n y l h = ap stats_worth kept ∙ read_back s n y l h low high in
-    record {
-      kept = kept;
-      read = read;
-      carried = subst (λ (r : Sums). Carried (stats_worth s) y r) (sym read) (carries s n y l h (holds added));
-    }
+pub returns-clause-carried : goal.returns-clause-carried
+returns-clause-carried c =
+    let fit : fits binary64 c.args.y ≡ true = search rules in
+    search (rules, carries c.args.self.now c.args.count c.args.y c.args.min c.args.max (passes _ fit))
