@@ -24,6 +24,13 @@ overflow_add-index g c =
     let few = listed_few (g.K.RowTable.table c.args.self.now.inner) c.args.bucket listed empty (g.met.K.RowTable.sound c.args.self.now.inner) (g.met.K.RowTable.lists c.args.self.now.inner c.args.bucket) in
     omega (arith, here.0, few)
 
+pub write_row-end-requires : goal.write_row-end-requires
+write_row-end-requires g c =
+    let rows = g.K.RowTable in
+    let listed = rows.listed c.args.self.now.inner c.args.bucket in
+    let here = read_some listed c.loop-row.index c.in-Some.row (sym c.in-Some.ensures) in
+    subst (λ (j : ℕ). j < (rows.table c.args.self.now.inner).rows) here.1 ((g.met.K.RowTable.lists c.args.self.now.inner c.args.bucket).below c.loop-row.index here.0).0
+
 pub loop-row-smaller : goal.loop-row-smaller
 loop-row-smaller g c =
     let listed = g.K.RowTable.listed c.args.self.now.inner c.args.bucket in
@@ -45,11 +52,8 @@ loop-row-preserved g c = λ seg n E rests prepared stored depth.
     let i = c.loop-row.index in
     let k = c.in-Some.row in
     let read = sym c.in-Some.ensures in
-    let here = read_some listed i k read in
-    let low = (g.met.K.RowTable.lists c.args.self.now.inner c.args.bucket).below i here.0 in
-    let there : k < t.rows = subst (λ (j : ℕ). j < t.rows) here.1 low.0 in
     let inv = c.loop-row.invariant seg n E rests prepared stored depth in
-    let one = c.write_row-end.ensures seg n E there rests prepared stored depth in
+    let one = c.write_row-end.ensures seg n E rests prepared stored depth in
     let es = inv.0 in
     let bs = one.0 in
     let entry : Entry tally.Worth = record { path = above ++ (t.step k ∷ []); count = t.count k; worth = row_worth feeding plan.levels plan.column plan.field_type seg (E k) } in (

@@ -7,15 +7,15 @@ use Rattle.segments.specs.Segments.{values}
 use Rattle.stack.specs.Levels.{step_of, steps_of_values, steps}
 use Rattle.collectors.specs.Filing.{Sorted, At, Sent, Within, Missed, placed_at, placed_all, step_at}
 use Rattle.collectors.specs.Spreading.{sent_none, sent_then, sent_missed, nth_more, within-part}
-use Rattle.collectors.proofs.bucket_collector.spread.Goals as goal
+use Rattle.collectors.proofs.bucket_collector.SegmentBucketCollector.spread.Goals as goal
 
 pub loop-i-init : goal.loop-i-init
 loop-i-init g c =
     let rows = g.K.RowTable in
     let cache = g.C.SubAggCache in
     let seg = g.S.Segment.means c.args.seg.now in
-    let t = rows.table c.args.inner.now in
-    let was = c.args.below.now in
+    let t = rows.table c.args.self.now.inner in
+    let was = c.args.self.now.below in
     (refl, sent_none (At t (cache.stored was c.args.slots.now seg) (cache.waiting was)) (λ b. c.args.bucket < b) (λ F. placed_all F c.args.bucket c.args.doc (steps_of_values (step_of t.level) (take 0 (values seg c.column-column.result c.args.doc)))) (cache.plan was) c.args.limits.now (t.rows + cache.made was) (λ F. refl))
 
 pub loop-i-preserved : goal.loop-i-preserved
@@ -23,12 +23,12 @@ loop-i-preserved g c =
     let rows = g.K.RowTable in
     let cache = g.C.SubAggCache in
     let seg = g.S.Segment.means c.args.seg.now in
-    let t = rows.table c.args.inner.now in
-    let u = rows.table c.loop-i.inner in
-    let w = rows.table c.place_nth.new.inner in
-    let was = c.args.below.now in
-    let mid = c.loop-i.below in
-    let is = c.place_nth.new.below in
+    let t = rows.table c.args.self.now.inner in
+    let u = rows.table c.loop-i.self.inner in
+    let w = rows.table c.place_nth.new.self.inner in
+    let was = c.args.self.now.below in
+    let mid = c.loop-i.self.below in
+    let is = c.place_nth.new.self.below in
     let b = c.args.bucket in
     let d = c.args.doc in
     let vs = values seg c.column-column.result d in
@@ -49,12 +49,12 @@ returns-in_err-place_nth g c =
     let rows = g.K.RowTable in
     let cache = g.C.SubAggCache in
     let seg = g.S.Segment.means c.args.seg.now in
-    let t = rows.table c.args.inner.now in
-    let u = rows.table c.loop-i.inner in
-    let w = rows.table c.place_nth.new.inner in
-    let was = c.args.below.now in
-    let mid = c.loop-i.below in
-    let is = c.place_nth.new.below in
+    let t = rows.table c.args.self.now.inner in
+    let u = rows.table c.loop-i.self.inner in
+    let w = rows.table c.place_nth.new.self.inner in
+    let was = c.args.self.now.below in
+    let mid = c.loop-i.self.below in
+    let is = c.place_nth.new.self.below in
     let b = c.args.bucket in
     let d = c.args.doc in
     let vs = values seg c.column-column.result d in
@@ -77,7 +77,7 @@ returns g c =
     let rows = g.K.RowTable in
     let cache = g.C.SubAggCache in
     let seg = g.S.Segment.means c.args.seg.now in
-    let t = rows.table c.args.inner.now in
+    let t = rows.table c.args.self.now.inner in
     let d = c.args.doc in
     let b = c.args.bucket in
     let vs = values seg c.column-column.result d in
@@ -86,6 +86,6 @@ returns g c =
     let whole : steps_of_values (step_of t.level) (take i vs) ≡ steps t.level seg d =
     ap (steps_of_values (step_of t.level)) (take_all i vs (omega (arith, c.loop-i-test.false, c.num_values-i-end.ensures)) ∙ ap (λ (k : ℕ). values seg k d) c.column-column.ensures) in (
       inv.0,
-      subst (λ (ss : List ℤ). Sent (At t (cache.stored c.args.below.now c.args.slots.now seg) (cache.waiting c.args.below.now)) (At (rows.table c.loop-i.inner) (cache.stored c.loop-i.below c.loop-i.slots seg) (cache.waiting c.loop-i.below))
-          (λ k. b < k) (λ F. placed_all F b d ss) (cache.plan c.args.below.now) (cache.plan c.loop-i.below) c.args.limits.now c.loop-i.limits (t.rows + cache.made c.args.below.now) ((rows.table c.loop-i.inner).rows + cache.made c.loop-i.below)) whole inv.1,
+      subst (λ (ss : List ℤ). Sent (At t (cache.stored c.args.self.now.below c.args.slots.now seg) (cache.waiting c.args.self.now.below)) (At (rows.table c.loop-i.self.inner) (cache.stored c.loop-i.self.below c.loop-i.slots seg) (cache.waiting c.loop-i.self.below))
+          (λ k. b < k) (λ F. placed_all F b d ss) (cache.plan c.args.self.now.below) (cache.plan c.loop-i.self.below) c.args.limits.now c.loop-i.limits (t.rows + cache.made c.args.self.now.below) ((rows.table c.loop-i.self.inner).rows + cache.made c.loop-i.self.below)) whole inv.1,
     )
