@@ -4,11 +4,11 @@ ghost use Rattle.std.specs.List.{slice_get};
 ghost use Rattle.std.specs.Option.{option_or};
 ghost use Rattle.records.specs.Paths.{steps_of};
 ghost use Rattle.records.specs.Rows.{Entry};
-ghost use Rattle.segments.specs.Segments.{Seg, values};
+ghost use Rattle.segments.specs.Segments.{Seg};
 ghost use Rattle.stack.specs.Levels.{steps, step_of};
 ghost use Rattle.stack.specs.Overruns.{Deliveries, numbered};
 ghost use Rattle.stack.specs.Writing.{above_steps, row_worth, Feeding, Written, Put};
-ghost use Rattle.collectors.specs.Filing.{step_at, sorted, on_top, At, Standing, placed_at, placed_all};
+ghost use Rattle.collectors.specs.Filing.{sorted, on_top, At, Standing, placed_at, placed_all};
 ghost use Rattle.collectors.specs.States.{state_of, PutsIn, Files};
 ghost use Rattle.collectors.specs.Holding.{held_rows, held_complete};
 ghost use Rattle.collectors.specs.Carrying.{waits_none};
@@ -78,26 +78,6 @@ impl<K: RowTable, C: SubAggCache> SegmentBucketCollector<K, C> {
         }
     }
 
-    /// Puts a document into the row of its value at an index, if there is one that is counted.
-    fn place_nth<S: Segment>(
-        &mut self,
-        seg: &S,
-        limits: &mut AggregationLimits,
-        slots: &mut [C::Fruit],
-        bucket: u32,
-        column: u32,
-        doc: u32,
-        index: usize,
-    ) -> Result<(), Fault>
-        ensures { let held = state_of K.table C.plan C.stored C.waiting C.made (S.means seg.now) in
-            Files result (held self.old.inner self.old.below slots.old) (held self.new.inner self.new.below slots.new) limits.old limits.new bucket (λ l F. placed_at F bucket (step_at (step_of l) (slice_get (values (S.means seg.now) column doc) index)) doc) }
-    {
-        match seg.value_at(column, doc, index) {
-            Some(val) => self.place(seg, limits, slots, bucket, val, doc),
-            None => Ok(()),
-        }
-    }
-
     /// Puts a document into the row of each of its counted values.
     fn spread<S: Segment>(
         &mut self,
@@ -113,7 +93,9 @@ impl<K: RowTable, C: SubAggCache> SegmentBucketCollector<K, C> {
         let column = self.inner.column();
         // By index: a segment may hold its values in any form, so it lends no slice of them.
         for i in 0..seg.num_values(column, doc) {
-            self.place_nth(seg, limits, slots, bucket, column, doc, i)?;
+            if let Some(val) = seg.value_at(column, doc, i) {
+                self.place(seg, limits, slots, bucket, val, doc)?;
+            }
         }
         Ok(())
     }
@@ -193,7 +175,7 @@ impl<K: RowTable, C: SubAggCache> SegmentAggregationCollector for SegmentBucketC
     ghost complete = { λ c slots seg n nb D s p x.
         let t = K.table c.inner in
         held_complete t (K.sound c.inner) (C.plan c.below).levels (length slots) seg n nb (C.stored c.below slots seg) (C.waiting c.below) D (C.made c.below)
-        (waits_none (C.waiting c.below) (C.pending c.below) (C.waits c.below) s.0) p.0
+        (waits_none (C.waits c.below) s.0) p.0
         (λ E h. C.complete c.below slots seg (suc n) t.rows E s.1 p.1 h) x };
 
     fn check<S: Segment>(

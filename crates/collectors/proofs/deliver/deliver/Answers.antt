@@ -11,14 +11,8 @@ use Rattle.collectors.proofs.deliver.deliver.Goals as goal
 
 pub returns-then-push : goal.returns-then-push
 returns-then-push g c =
-    let cache = g.C.SubAggCache in
-    let seg = g.S.Segment.means c.args.seg.now in
-    let slots = c.args.slots.now in
-    let was = c.args.below.now in
-    let is = c.push.new.self in
     let kept = c.push.ensures.kept in
-    push_went (cache.stored was slots seg) (cache.stored is slots seg) (cache.waiting was) (cache.waiting is) (Inside (cache.waiting was)) c.args.row c.args.doc (cache.plan was) (cache.plan is) c.args.limits.now (cache.made was) (cache.made is)
-    (c.push.ensures.after.waits c.if-push.true) (kept.0 slots seg) kept.1 kept.2
+    push_went c.args.row c.args.doc (c.push.ensures.after.waits c.if-push.true) (kept.0 c.args.slots.now (g.S.Segment.means c.args.seg.now)) kept.1 kept.2
 
 pub returns-in_err-hand_over : goal.returns-in_err-hand_over
 returns-in_err-hand_over g c =
@@ -37,9 +31,8 @@ returns-in_err-hand_over g c =
     (Inside (cache.waiting was)) (Inside (cache.waiting mid)) (Inside (cache.waiting was)) (λ E. E) (λ E. added E c.args.row one) (λ E. added E c.args.row one)
     (cache.plan was) (cache.plan mid) limits limits c.hand_over.new.limits (cache.made was) (cache.made mid) (cache.made c.hand_over.new.self) c.in_err-hand_over.field-0.0
     (λ b i. i) (λ b i. subst (λ (w : Deliveries). Inside w b) (sym back.0) i) (λ E. more_refl (added E c.args.row one))
-    (still_went (cache.stored was slots seg) (cache.stored mid slots seg) (cache.waiting was) (cache.waiting mid) (Inside (cache.waiting was)) (cache.plan was) (cache.plan mid) limits (cache.made was) (cache.made mid) back.0 (kept.0 slots seg) kept.1 kept.2)
-    (hand_overran 1 (length slots) seg (cache.stored mid slots seg) (cache.waiting mid) (λ E. added E c.args.row one) (cache.plan mid) limits c.hand_over.new.limits (cache.made mid) (cache.made c.hand_over.new.self) c.in_err-hand_over.field-0.0
-    (λ E. more_added E c.args.row one) c.in_err-hand_over.ensures))
+    (still_went back.0 (kept.0 slots seg) kept.1 kept.2)
+    (hand_overran (λ E. more_added E c.args.row one) c.in_err-hand_over.ensures))
 
 pub returns : goal.returns
 returns g c =
@@ -59,11 +52,6 @@ returns g c =
     let one = c.args.doc ∷ [] in
     let hand = c.in_ok-hand_over.ensures in
     let room : c.push-2.result ≡ true = c.push-2.ensures.answer.0 c.requires ∙ ap not (g.met.C.SubAggCache.roomy handed hand.1) in
-    let first = still_went (cache.stored was slots seg) (cache.stored mid slots seg) (cache.waiting was) (cache.waiting mid) (Inside (cache.waiting was)) (cache.plan was) (cache.plan mid) limits (cache.made was) (cache.made mid) back.0 (kept.0 slots seg) kept.1 kept.2 in
-    let second = hand_went (cache.stored mid slots seg) (cache.stored handed slots' seg) (cache.waiting mid) (cache.waiting handed) (cache.plan mid) (cache.plan handed) limits limits' (cache.made mid) (cache.made handed)
-    (waits_none (cache.waiting handed) (cache.pending handed) (g.met.C.SubAggCache.waits handed) hand.1) hand.0 in
-    let third = push_went (cache.stored handed slots' seg) (cache.stored is slots' seg) (cache.waiting handed) (cache.waiting is) (λ b. Unit {0}) c.args.row c.args.doc (cache.plan handed) (cache.plan is) limits' (cache.made handed) (cache.made is)
-    (c.push-2.ensures.after.waits room) (kept2.0 slots' seg) kept2.1 kept2.2 in
     let X : ℕ → ℕ → Deliveries → Type 0 = λ n b. Carries (cache.stored was slots seg n b) (cache.waiting was) in
     let Y : ℕ → ℕ → Deliveries → Type 0 = λ n b. Carries (cache.stored mid slots seg n b) (cache.waiting mid) in
     let Z : ℕ → ℕ → Deliveries → Type 0 = λ n b. Carries (cache.stored handed slots' seg n b) (cache.waiting handed) in
@@ -73,5 +61,7 @@ returns g c =
     (λ b i. i) (λ b i. tt) (λ E. refl)
     (went_then X Y Z (Inside (cache.waiting was)) (Inside (cache.waiting mid)) (Inside (cache.waiting was)) (λ E. E) (λ E. E) (λ E. E)
     (cache.plan was) (cache.plan mid) (cache.plan handed) limits limits limits' (cache.made was) (cache.made mid) (cache.made handed)
-    (λ b i. i) (λ b i. subst (λ (w : Deliveries). Inside w b) (sym back.0) i) (λ E. refl) first second)
-    third
+    (λ b i. i) (λ b i. subst (λ (w : Deliveries). Inside w b) (sym back.0) i) (λ E. refl)
+    (still_went back.0 (kept.0 slots seg) kept.1 kept.2)
+    (hand_went (waits_none (g.met.C.SubAggCache.waits handed) hand.1) hand.0))
+    (push_went c.args.row c.args.doc (c.push-2.ensures.after.waits room) (kept2.0 slots' seg) kept2.1 kept2.2)

@@ -40,7 +40,7 @@ loop-doc-preserved g c =
     (on_top t.level (cache.plan was)) (on_top u.level (cache.plan mid)) (on_top w.level (cache.plan is)) c.args.limits.now c.loop-doc.limits c.spread.new.limits (t.rows + cache.made was) (u.rows + cache.made mid) (w.rows + cache.made is)
     (λ k h. h) (λ k h. h) (λ D. added_twice D b (take i docs) (d ∷ []) ∙ ap (added D b) (sym (take_more docs i 0 c.loop-doc-test.true)))
     c.loop-doc.invariant
-    (sent_went u w seg (At u (cache.stored mid c.loop-doc.slots seg) (cache.waiting mid)) (At w (cache.stored is c.spread.new.slots seg) (cache.waiting is)) b d (cache.plan mid) (cache.plan is) c.loop-doc.limits c.spread.new.limits (u.rows + cache.made mid) (w.rows + cache.made is) done.0 done.1)
+    (sent_went u w seg d done.0 done.1)
 
 pub returns-in_err-spread : goal.returns-in_err-spread
 returns-in_err-spread g c =
@@ -66,7 +66,7 @@ returns-in_err-spread g c =
     (λ D. subst (λ (E : Deliveries). More E (added D b docs)) (sym (added_twice D b (take i docs) (d ∷ []) ∙ ap (added D b) (sym (take_more docs i 0 c.loop-doc-test.true)))) (more_added_take D b (i + 1) docs))
     c.loop-doc.invariant
     (subst (λ (m : ℕ). Overran 1 (on_top u.level (cache.plan mid)) m seg Y (λ k. b < k) (λ D. added D b (d ∷ [])) c.loop-doc.limits c.spread.new.limits (u.rows + cache.made mid) (w.rows + cache.made is) f) c.loop-doc.auto.slots
-    (missed_overran u.level (length c.loop-doc.slots) seg (At u (cache.stored mid c.loop-doc.slots seg) (cache.waiting mid)) b d (cache.plan mid) c.loop-doc.limits c.spread.new.limits (u.rows + cache.made mid) (w.rows + cache.made is) f c.in_err-spread.ensures)))
+    (missed_overran d c.in_err-spread.ensures)))
 
 pub returns : goal.returns
 returns g c =
@@ -88,10 +88,10 @@ returns g c =
     (on_top t.level (cache.plan was)) (on_top u.level (cache.plan mid)) (on_top u.level (cache.plan is)) c.args.limits.now c.loop-doc.limits c.ease.new.limits (t.rows + cache.made was) (u.rows + cache.made mid) (u.rows + cache.made is)
     (λ k h. h) (λ k h. h) (λ D. ap (added D b) (take_all i docs c.loop-doc-test.false))
     c.loop-doc.invariant
-    (carried_went u seg (cache.stored mid c.loop-doc.slots seg) (cache.stored is c.ease.new.slots seg) (cache.waiting mid) (cache.waiting is) (λ k. b < k) (cache.plan mid) (cache.plan is) c.loop-doc.limits c.ease.new.limits (cache.made mid) (cache.made is) went))
+    (carried_went seg went))
     (λ f over. went_overran 1 (length c.args.slots.now) seg X Y (λ k. b < k) (λ k. b < k) (λ k. b < k) (λ D. added D b (take i docs)) (λ D. D) (λ D. added D b docs)
     (on_top t.level (cache.plan was)) (on_top u.level (cache.plan mid)) c.args.limits.now c.loop-doc.limits c.ease.new.limits (t.rows + cache.made was) (u.rows + cache.made mid) (u.rows + cache.made is) f
     (λ k h. h) (λ k h. h) (λ D. more_added_take D b i docs)
     c.loop-doc.invariant
     (subst (λ (m : ℕ). Overran 1 (on_top u.level (cache.plan mid)) m seg Y (λ k. b < k) (λ D. D) c.loop-doc.limits c.ease.new.limits (u.rows + cache.made mid) (u.rows + cache.made is) f) c.loop-doc.auto.slots
-    (carried_overran u (g.met.K.RowTable.sound c.loop-doc.self.inner) (length c.loop-doc.slots) seg (cache.stored mid c.loop-doc.slots seg) (cache.waiting mid) (λ k. b < k) (cache.plan mid) c.loop-doc.limits c.ease.new.limits (cache.made mid) (cache.made is) f over)))
+    (carried_overran (g.met.K.RowTable.sound c.loop-doc.self.inner) over)))

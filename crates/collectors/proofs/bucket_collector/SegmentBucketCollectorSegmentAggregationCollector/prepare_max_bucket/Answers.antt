@@ -12,23 +12,16 @@ use Rattle.collectors.proofs.bucket_collector.SegmentBucketCollectorSegmentAggre
 pub returns-in_err-prepare : goal.returns-in_err-prepare
 returns-in_err-prepare g c =
     let q = err_from_is_err_and c.from_residual.result c.from_residual.ensures.1 in
-    let rows = g.K.RowTable in
-    let cache = g.C.SubAggCache in
-    let was = c.args.self.now.below in
-    let slots = c.args.slots.now in
-    rw (q.1, q.2) (λ (seg : Seg). unprepared_overran (rows.table c.args.self.now.inner) (rows.table c.prepare.new.self) (g.met.K.RowTable.sound c.prepare.new.self) (length slots) seg (cache.stored was slots seg) (cache.waiting was) c.args.buckets (cache.plan was) c.args.limits.now c.prepare.new.limits (cache.made was) c.in_err-prepare.field-0.0
-    (λ n R D h. g.met.C.SubAggCache.rows was slots seg n R D h) c.in_err-prepare.ensures)
+    rw (q.1, q.2) (λ (seg : Seg). unprepared_overran (g.met.K.RowTable.sound c.prepare.new.self) (g.met.C.SubAggCache.rows c.args.self.now.below c.args.slots.now seg) c.in_err-prepare.ensures)
 
 pub returns : goal.returns
 returns g c =
-    let rows = g.K.RowTable in
     let cache = g.C.SubAggCache in
-    let t = rows.table c.args.self.now.inner in
-    let u = rows.table c.prepare.new.self in
+    let t = g.K.RowTable.table c.args.self.now.inner in
+    let u = g.K.RowTable.table c.prepare.new.self in
     let was = c.args.self.now.below in
     let is = c.prepare_max_bucket.new.self in
     let slots = c.args.slots.now in
-    let R = c.num_rows-rows.result in
     let sound = g.met.K.RowTable.sound c.prepare.new.self in
     let limits = c.args.limits.now in
     let limits' = c.prepare.new.limits in
@@ -37,23 +30,20 @@ returns g c =
     let Y : Seg → ℕ → ℕ → Deliveries → Type 0 = λ seg n nb D. At u (cache.stored was slots seg) (cache.waiting was) n nb (sorted u.level seg D) in
     let Z : Seg → ℕ → ℕ → Deliveries → Type 0 = λ seg n nb D. At u (cache.stored is slots seg) (cache.waiting is) n nb (sorted u.level seg D) in
     let inside : ℕ → Type 0 = λ b. c.args.buckets ≤ b in
-    let made = λ (seg : Seg). prepared_went t u sound seg (cache.stored was slots seg) (cache.waiting was) c.args.buckets (cache.plan was) limits limits' (cache.made was) (λ n R S D l h. g.met.C.SubAggCache.wider was slots seg n R S D l h) c.in_ok-prepare.ensures in
     MatchResult-weaker c.prepare_max_bucket.result c.prepare_max_bucket.ensures
     (λ x done. (
       (λ seg.
           went_then (X seg) (Y seg) (Z seg) inside inside inside (λ D. D) (λ D. D) (λ D. D)
           (on_top t.level (cache.plan was)) (on_top u.level (cache.plan was)) (on_top u.level (cache.plan is)) limits limits' limits'' (t.rows + cache.made was) (u.rows + cache.made was) (u.rows + cache.made is)
-          (λ b h. h) (λ b h. h) (λ D. refl) (made seg)
-          (carried_by u seg (cache.stored was slots seg) (cache.stored is slots seg) (cache.waiting was) (cache.waiting is) (λ b. R ≤ b) inside (cache.plan was) (cache.plan is) limits' limits'' (cache.made was) (cache.made is)
-          (λ n E r. omega (arith, c.num_rows-rows.ensures))
-          (below_went (cache.stored was slots seg) (cache.stored is slots seg) (cache.waiting was) (cache.waiting is) R (cache.plan was) (cache.plan is) limits' limits'' (cache.made was) (cache.made is) done.1 (done.0 seg)))),
+          (λ b h. h) (λ b h. h) (λ D. refl)
+          (prepared_went sound seg (cache.made was) (g.met.C.SubAggCache.wider was slots seg) c.in_ok-prepare.ensures)
+          (carried_by seg (λ n E r. omega (arith, c.num_rows-rows.ensures)) (below_went done.1 (done.0 seg)))),
       (λ s. (done.2 ∙ s.0, done.3 s.1)),
       (c.in_ok-prepare.ensures.complete, subst (λ (k : ℕ). cache.prepared is (length slots) k) c.num_rows-rows.ensures done.4),
     ))
     (λ f over seg.
     went_overran 1 (length slots) seg (X seg) (Y seg) inside inside inside (λ D. D) (λ D. D) (λ D. D)
     (on_top t.level (cache.plan was)) (on_top u.level (cache.plan was)) limits limits' limits'' (t.rows + cache.made was) (u.rows + cache.made was) (u.rows + cache.made is) f
-    (λ b h. h) (λ b h. h) more_refl (made seg)
-    (overran_by u sound (length slots) seg (cache.stored was slots seg) (cache.waiting was) (λ b. R ≤ b) inside (cache.plan was) limits' limits'' (cache.made was) (cache.made is) f
-    (λ n E r. omega (arith, c.num_rows-rows.ensures))
-    (below_overran (length slots) seg (cache.stored was slots seg) (cache.waiting was) R (cache.plan was) limits' limits'' (cache.made was) (cache.made is) f (over seg))))
+    (λ b h. h) (λ b h. h) more_refl
+    (prepared_went sound seg (cache.made was) (g.met.C.SubAggCache.wider was slots seg) c.in_ok-prepare.ensures)
+    (overran_by sound (λ n E r. omega (arith, c.num_rows-rows.ensures)) (below_overran (over seg))))
