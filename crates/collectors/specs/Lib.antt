@@ -7,4 +7,4 @@ pub mod Sending
 pub mod Lacking
 pub mod Spreading
 pub mod Carrying
-pub mod States
+pub mod Calls

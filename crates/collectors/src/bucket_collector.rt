@@ -9,7 +9,7 @@ ghost use Rattle.stack.specs.Levels.{steps, step_of};
 ghost use Rattle.stack.specs.Overruns.{Deliveries, numbered};
 ghost use Rattle.stack.specs.Writing.{above_steps, row_worth, Feeding, Written, Put};
 ghost use Rattle.collectors.specs.Filing.{sorted, on_top, At, Standing, placed_at, placed_all};
-ghost use Rattle.collectors.specs.States.{state_of, PutsIn, Files};
+ghost use Rattle.collectors.specs.Calls.{PutIn, Files};
 ghost use Rattle.collectors.specs.Holding.{held_rows, held_complete};
 ghost use Rattle.collectors.specs.Carrying.{waits_none};
 ghost use Rattle.std.proofs.Common.{rules};
@@ -52,8 +52,9 @@ impl<K: RowTable, C: SubAggCache> SegmentBucketCollector<K, C> {
         doc: u32,
     ) -> Result<(), Fault>
         requires { row < (K.table self.old.inner).rows }
-        ensures { let held = state_of K.table C.plan C.stored C.waiting C.made (S.means seg.now) in
-            PutsIn result (held self.old.inner self.old.below slots.old) (held self.new.inner self.new.below slots.new) limits.old limits.new row doc }
+        ensures { PutIn result K.table C.stored C.waiting C.plan C.made (S.means seg.now)
+            (self.old, slots.old, limits.old) (self.new, slots.new, limits.new)
+            row doc }
     {
         self.inner.count_up(row)?;
         deliver(&mut self.below, seg, limits, slots, row as u32, doc)
@@ -69,8 +70,9 @@ impl<K: RowTable, C: SubAggCache> SegmentBucketCollector<K, C> {
         val: u64,
         doc: u32,
     ) -> Result<(), Fault>
-        ensures { let held = state_of K.table C.plan C.stored C.waiting C.made (S.means seg.now) in
-            Files result (held self.old.inner self.old.below slots.old) (held self.new.inner self.new.below slots.new) limits.old limits.new bucket (λ l F. placed_at F bucket (step_of l val) doc) }
+        ensures { Files result K.table C.stored C.waiting C.plan C.made (S.means seg.now)
+            (self.old, slots.old, limits.old) (self.new, slots.new, limits.new)
+            bucket (λ l F. placed_at F bucket (step_of l val) doc) }
     {
         match self.inner.row_for(limits, bucket, val)? {
             Some(row) => self.put(seg, limits, slots, row, doc),
@@ -87,8 +89,9 @@ impl<K: RowTable, C: SubAggCache> SegmentBucketCollector<K, C> {
         bucket: u32,
         doc: u32,
     ) -> Result<(), Fault>
-        ensures { let held = state_of K.table C.plan C.stored C.waiting C.made (S.means seg.now) in
-            Files result (held self.old.inner self.old.below slots.old) (held self.new.inner self.new.below slots.new) limits.old limits.new bucket (λ l F. placed_all F bucket doc (steps l (S.means seg.now) doc)) }
+        ensures { Files result K.table C.stored C.waiting C.plan C.made (S.means seg.now)
+            (self.old, slots.old, limits.old) (self.new, slots.new, limits.new)
+            bucket (λ l F. placed_all F bucket doc (steps l (S.means seg.now) doc)) }
     {
         let column = self.inner.column();
         // By index: a segment may hold its values in any form, so it lends no slice of them.

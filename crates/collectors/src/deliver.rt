@@ -1,7 +1,8 @@
 //! Sending a document on to the level below.
 ghost use Rattle.std.specs.Prelude.{◌<◌, [], ◌∷◌};
 ghost use Rattle.stack.specs.Overruns.{added};
-ghost use Rattle.collectors.specs.States.{below_of, Sends};
+ghost use Rattle.stack.specs.Calls.{Handled, Inside};
+ghost use Rattle.collectors.specs.Calls.{carried_in};
 
 use limits::agg_limits::AggregationLimits;
 use records::fault::Fault;
@@ -18,8 +19,9 @@ pub(crate) fn deliver<C: SubAggCache, S: Segment>(
     doc: u32,
 ) -> Result<(), Fault>
     requires { row < 512 }
-    ensures { let held = below_of C.plan C.stored C.waiting C.made (S.means seg.now) in
-        Sends result (held below.old slots.old) (held below.new slots.new) limits.old limits.new (λ E. added E row (doc ∷ [])) }
+    ensures { Handled result (carried_in C.stored C.waiting) C.plan C.made (S.means seg.now)
+        (below.old, slots.old, limits.old) (below.new, slots.new, limits.new)
+        (Inside (C.waiting below.old)) (λ E. added E row (doc ∷ [])) }
 {
     if below.push(row, doc) {
         return Ok(());
@@ -36,8 +38,9 @@ pub(crate) fn ease<C: SubAggCache, S: Segment>(
     limits: &mut AggregationLimits,
     slots: &mut [C::Fruit],
 ) -> Result<(), Fault>
-    ensures { let held = below_of C.plan C.stored C.waiting C.made (S.means seg.now) in
-        Sends result (held below.old slots.old) (held below.new slots.new) limits.old limits.new (λ E. E) }
+    ensures { Handled result (carried_in C.stored C.waiting) C.plan C.made (S.means seg.now)
+        (below.old, slots.old, limits.old) (below.new, slots.new, limits.new)
+        (Inside (C.waiting below.old)) (λ E. E) }
 {
     if below.is_full() {
         below.hand_over(seg, limits, slots)?;

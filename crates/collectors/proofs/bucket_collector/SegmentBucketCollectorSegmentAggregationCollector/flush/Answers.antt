@@ -7,5 +7,5 @@ use Rattle.collectors.proofs.bucket_collector.SegmentBucketCollectorSegmentAggre
 pub returns : goal.returns
 returns g c =
     MatchResult-weaker c.flush.result c.flush.ensures
-    (λ x h. (carried_went (g.S.Segment.means c.args.seg.now) (hand_went (waits_none (g.met.C.SubAggCache.waits c.flush.new.self) h.1) h.0), (h.1, h.2)))
+    (λ x h. (carried_went (g.S.Segment.means c.args.seg.now) (hand_went (waits_none (g.met.C.SubAggCache.waits c.flush.new.self) h.1.0) h.0), h.1))
     (λ f over. carried_overran (g.met.K.RowTable.sound c.args.self.now.inner) (hand_overran more_refl over))

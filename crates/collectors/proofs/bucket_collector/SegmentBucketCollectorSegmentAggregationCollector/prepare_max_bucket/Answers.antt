@@ -37,9 +37,11 @@ returns g c =
           (on_top t.level (cache.plan was)) (on_top u.level (cache.plan was)) (on_top u.level (cache.plan is)) limits limits' limits'' (t.rows + cache.made was) (u.rows + cache.made was) (u.rows + cache.made is)
           (λ b h. h) (λ b h. h) (λ D. refl)
           (prepared_went sound seg (cache.made was) (g.met.C.SubAggCache.wider was slots seg) c.in_ok-prepare.ensures)
-          (carried_by seg (λ n E r. omega (arith, c.num_rows-rows.ensures)) (below_went done.1 (done.0 seg)))),
-      (λ s. (done.2 ∙ s.0, done.3 s.1)),
-      (c.in_ok-prepare.ensures.complete, subst (λ (k : ℕ). cache.prepared is (length slots) k) c.num_rows-rows.ensures done.4),
+          (carried_by seg (λ n E r. omega (arith, c.num_rows-rows.ensures)) (below_went done.1.0 (done.0 seg)))),
+      (
+        (λ s. (done.1.1 ∙ s.0, done.1.2 s.1)),
+        (c.in_ok-prepare.ensures.complete, subst (λ (k : ℕ). cache.prepared is (length slots) k) c.num_rows-rows.ensures done.1.3),
+      ),
     ))
     (λ f over seg.
     went_overran 1 (length slots) seg (X seg) (Y seg) inside inside inside (λ D. D) (λ D. D) (λ D. D)

@@ -1,0 +1,45 @@
+-- What a call of a level with rows promises, of the states before and after.
+use Rattle.std.specs.Prelude.{◌≡◌, ℕ, ◌+◌, ◌<◌, List, [], ◌∷◌, length, Result, MatchResult}
+use Rattle.records.specs.declared.fault.Fault.{Fault}
+use Rattle.segments.specs.Segments.{Seg}
+use Rattle.stack.specs.Levels.{Lvl, Plan}
+use Rattle.stack.specs.Overruns.{Deliveries, added}
+use Rattle.stack.specs.Calls.{State, Holds, Accepted}
+use Rattle.rows.specs.Tables.{Table, Counted}
+use Rattle.collectors.specs.Filing.{Carries, Rows, Sorted, At, Sent, Missed, PutRefused}
+use Rattle.collectors.specs.declared.bucket_collector.SegmentBucketCollector.{SegmentBucketCollector}
+
+-- what a cache holds, with what waits in it
+abbrev pub carried_in : {C T : Type 0} → Holds C T → (C → Deliveries) → Holds C T
+carried_in stored waiting c slots g n buckets = Carries (stored c slots g n buckets) (waiting c)
+
+-- the documents of a level's rows
+abbrev pub rows_in : {K C T : Type 0} → (K → Table) → Holds C T → (C → Deliveries) → Holds (SegmentBucketCollector K C) T
+rows_in table stored waiting c slots g n buckets = Rows (table c.inner).count buckets (carried_in stored waiting c.below slots g n buckets)
+
+-- the documents filed in a level's rows
+abbrev pub filed_in : {K C T : Type 0} → (K → Table) → Holds C T → (C → Deliveries) → SegmentBucketCollector K C → List T → Seg → (n buckets : ℕ) → Sorted → Type 0
+filed_in table stored waiting c slots g = At (table c.inner) (stored c.below slots g) (waiting c.below)
+
+-- A document is counted in a row and sent on, or refused.
+abbrev pub PutIn : {K C T V : Type 0} → Result V Fault → (K → Table) → Holds C T → (C → Deliveries) → (C → Plan) → (C → ℕ) → Seg → (was is : State (SegmentBucketCollector K C) T) → (row doc : ℕ) → Type 0
+PutIn result table stored waiting plan made g was is row doc =
+    let t = table was.0.inner in
+    let u = table is.0.inner in
+    let held = rows_in table stored waiting in
+    MatchResult result
+    (λ _. Counted t u row × Accepted held (λ c. plan c.below) (λ c. made c.below) g was is (λ n. n ≡ t.rows) (λ E. added E row (doc ∷ [])))
+    (λ f. PutRefused t u (plan was.0.below) (length was.1) g (held was.0 was.1 g) row doc was.2 is.2 (made was.0.below) (made is.0.below) f)
+
+-- What a call files for a bucket, at the level, is filed with what was filed before, or refused.
+abbrev pub Files : {K C T V : Type 0} → Result V Fault → (K → Table) → Holds C T → (C → Deliveries) → (C → Plan) → (C → ℕ) → Seg → (was is : State (SegmentBucketCollector K C) T) → (bucket : ℕ) → (Lvl → Sorted → Sorted) → Type 0
+Files result table stored waiting plan made g was is bucket grows =
+    let t = table was.0.inner in
+    let u = table is.0.inner in
+    let before = filed_in table stored waiting was.0 was.1 g in
+    let after = filed_in table stored waiting is.0 is.1 g in
+    let rows = t.rows + made was.0.below in
+    let rows' = u.rows + made is.0.below in
+    MatchResult result
+    (λ _. (u.level ≡ t.level) × Sent before after (λ n. bucket < n) (grows t.level) (plan was.0.below) (plan is.0.below) was.2 is.2 rows rows')
+    (λ f. Missed (plan was.0.below) t.level (length was.1) g before (λ n. bucket < n) (grows t.level) was.2 is.2 rows rows' f)
