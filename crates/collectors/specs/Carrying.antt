@@ -18,6 +18,10 @@ use Rattle.collectors.specs.Filing.{Carries}
 pub waits_none : {w : Deliveries} {p : ℕ} → Waits w p → p ≡ 0 → (b : ℕ) → w b ≡ []
 waits_none {w} {p} x e b = x.parts b ∙ ap (docs_for b x.buckets) (nil_from_length x.docs (x.count ∙ e)) ∙ docs_none b x.buckets
 
+-- where nothing waits, all that is carried is stored
+pub carry_none : {A : Deliveries → Type 0} {ws E : Deliveries} → ((b : ℕ) → ws b ≡ []) → Carries A ws E → A E
+carry_none {A} {ws} {E} none x = subst A (sym (all_added_none x.under ws none) ∙ x.whole) x.stores
+
 pub carry_push : (A B : Deliveries → Type 0) (ws us : Deliveries) (row doc : ℕ) → ((D : Deliveries) → A D → B D) → us ≡ added ws row (doc ∷ []) → (E : Deliveries) → Carries A ws E → Carries B us (added E row (doc ∷ []))
 carry_push A B ws us row doc f e E x = record {
   under = x.under;

@@ -7,9 +7,10 @@ ghost use Rattle.records.specs.Rows.{Entry};
 ghost use Rattle.segments.specs.Segments.{Seg};
 ghost use Rattle.stack.specs.Levels.{steps, step_of};
 ghost use Rattle.stack.specs.Overruns.{Deliveries, numbered};
-ghost use Rattle.stack.specs.Writing.{above_steps, row_worth, Feeding, Written, Put};
+ghost use Rattle.stack.specs.Calls.{Ready};
+ghost use Rattle.stack.specs.Writing.{above_steps};
 ghost use Rattle.collectors.specs.Filing.{sorted, on_top, At, Standing, placed_at, placed_all};
-ghost use Rattle.collectors.specs.Calls.{PutIn, Files};
+ghost use Rattle.collectors.specs.Calls.{PutIn, PutRow, Files};
 ghost use Rattle.collectors.specs.Holding.{held_rows, held_complete};
 ghost use Rattle.collectors.specs.Carrying.{waits_none};
 ghost use Rattle.std.proofs.Common.{rules};
@@ -115,9 +116,8 @@ impl<K: RowTable, C: SubAggCache> SegmentBucketCollector<K, C> {
         requires { row < (K.table self.now.inner).rows }
         ensures { let t = K.table self.now.inner in
             let plan = C.plan self.now.below in
-            let feeding : Feeding C.Fruit.Tally.Worth = record { nothing = C.Fruit.Tally.nothing; fed = C.Fruit.Tally.fed } in
             let path = above_steps above ++ (t.step row ∷ []) in
-            (g : Seg) (n : ℕ) (E : Deliveries) → C.rests self.now.below → C.prepared self.now.below (length slots.now) t.rows → C.stored self.now.below slots.now g n t.rows E → length (above_steps above) + suc (length plan.levels) ≤ 3 → (es : List (Entry C.Fruit.Tally.Worth)) × (Written feeding plan.column plan.field_type g plan.levels path (E row) es × (at + suc (length es) ≤ length out.old → Put C.Fruit.Tally.worth out.old out.new at result (record { path = path; count = t.count row; worth = row_worth feeding plan.levels plan.column plan.field_type g (E row) } ∷ es))) }
+            Ready C.stored C.rests C.prepared self.now.below slots.now row (λ g docs. length path + length plan.levels ≤ 3 → PutRow C.Fruit.Tally.worth record { nothing = C.Fruit.Tally.nothing; fed = C.Fruit.Tally.fed } plan g path (t.count row) docs out.old out.new at result) }
     {
         let Some(path) = path_below(above, self.inner.step_of(row)) else {
             return at;
@@ -254,10 +254,12 @@ impl<K: RowTable, C: SubAggCache> SegmentAggregationCollector for SegmentBucketC
         at: usize,
     ) -> usize {
         let mut end = at;
-        let mut index = 0;
-        while let Some(row) = self.inner.row_at(bucket, index) {
+        // By index: the table may hold a bucket's rows in any form, so it lends no slice of them.
+        for index in 0..self.inner.num_rows() {
+            let Some(row) = self.inner.row_at(bucket, index) else {
+                break;
+            };
             end = self.write_row(slots, above, row, out, end);
-            index += 1;
         }
         end
     }
