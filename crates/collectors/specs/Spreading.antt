@@ -27,15 +27,16 @@ sent_then {X} {Y} {Z} {inside} {gr1} {gr2} {grows} {p} {q} {r} {a} {b} {c} {k} {
   charged = charged_trans a b c k m n x.charged y.charged;
 }
 
-pub sent_missed : {lv lw : Lvl} {slots : ℕ} {g : Seg} {X Y : (n buckets : ℕ) → Sorted → Type 0} {inside : ℕ → Type 0} {gr1 gr2 grows : Sorted → Sorted} {p q : Plan} {a b c : AggregationLimits} {k m n : ℕ} {f : Fault} → lw ≡ lv → Sent X Y inside gr1 p q a b k m → Missed q lw slots g Y inside gr2 b c m n f → ((F : Sorted) → Within (gr2 (gr1 F)) (grows F)) → Missed p lv slots g X inside grows a c k n f
-sent_missed {lv} {lw} {slots} {g} {X} {Y} {inside} {gr1} {gr2} {grows} {p} {q} {a} {b} {c} {k} {m} {n} {f} same x y more = record {
+pub sent_missed : {lv lw : Lvl} {slots slots' : ℕ} {g : Seg} {X Y : (n buckets : ℕ) → Sorted → Type 0} {inside : ℕ → Type 0} {gr1 gr2 grows : Sorted → Sorted} {p q : Plan} {a b c : AggregationLimits} {k m n : ℕ} {f : Fault} → slots' ≡ slots → lw ≡ lv → Sent X Y inside gr1 p q a b k m → Missed q lw slots' g Y inside gr2 b c m n f → ((F : Sorted) → Within (gr2 (gr1 F)) (grows F)) → Missed p lv slots g X inside grows a c k n f
+sent_missed {lv} {lw} {slots} {slots'} {g} {X} {Y} {inside} {gr1} {gr2} {grows} {p} {q} {a} {b} {c} {k} {m} {n} {f} size same x y more = record {
   stopped = stopped_after a b c k m n f x.charged y.stopped;
   overrun = λ l buckets others F D h s used all.
       let o = y.overrun l buckets others (gr1 F) D h (x.keeps l buckets h F s) (others_same a b k m others x.charged used)
       (subst (λ (z : Lvl). Within (gr2 (gr1 F)) (sorted z g D)) (sym same) (within_trans (gr2 (gr1 F)) (grows F) (sorted lv g D) (more F) all)) in
-      subst (λ (z : Lvl). Overrun 1 (z ∷ p.levels) slots l g buckets D others a.limit f) same
-      (subst (λ (z : Plan). Overrun 1 (lw ∷ z.levels) slots l g buckets D others a.limit f) x.same_plan
-      (subst (λ (z : ℕ). Overrun 1 (lw ∷ q.levels) slots l g buckets D others z f) x.charged.same_limit o));
+      subst (λ (z : ℕ). Overrun 1 (lv ∷ p.levels) z l g buckets D others a.limit f) size
+      (subst (λ (z : Lvl). Overrun 1 (z ∷ p.levels) slots' l g buckets D others a.limit f) same
+      (subst (λ (z : Plan). Overrun 1 (lw ∷ z.levels) slots' l g buckets D others a.limit f) x.same_plan
+      (subst (λ (z : ℕ). Overrun 1 (lw ∷ q.levels) slots' l g buckets D others z f) x.charged.same_limit o)));
 }
 
 -- ---- the steps of a document's values

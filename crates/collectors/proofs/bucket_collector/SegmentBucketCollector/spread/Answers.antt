@@ -1,10 +1,10 @@
 -- Each turn places one value more; every index has one.
-use Rattle.std.proofs.Common.{◌≡◌, ℕ, ◌+◌, ◌<◌, List, length, take, ℤ, sym, refl, ap, ◌∙◌, subst, arith}
+use Rattle.std.proofs.Common.{◌≡◌, ℕ, ◌+◌, ◌<◌, List, take, ℤ, sym, refl, ap, ◌∙◌, subst, arith}
 use Rattle.std.proofs.lemmas.List.{take_all}
 use Rattle.std.proofs.lemmas.Result.{err_from_is_err_and}
 use Rattle.segments.specs.Segments.{values}
 use Rattle.stack.specs.Levels.{step_of, steps_of_values, steps}
-use Rattle.collectors.specs.Filing.{Sorted, At, Sent, Within, Missed, placed_at, placed_all}
+use Rattle.collectors.specs.Filing.{Sorted, At, Sent, Within, placed_all}
 use Rattle.collectors.specs.Spreading.{sent_none, sent_then, sent_missed, value_next, within-part}
 use Rattle.collectors.proofs.Writing.{read_none}
 use Rattle.collectors.proofs.bucket_collector.SegmentBucketCollector.spread.Goals.{in-Some+in_ok-place, in_default}
@@ -31,20 +31,15 @@ loop-i-preserved g c =
 pub returns-in_err-place : goal.returns-in_err-place
 returns-in_err-place g c =
     let q = err_from_is_err_and c.from_residual.result c.from_residual.ensures.1 in
-    let cache = g.C.SubAggCache in
     let seg = g.S.Segment.means c.args.seg.now in
     let t = g.K.RowTable.table c.args.self.now.inner in
     let u = g.K.RowTable.table c.loop-i.self.inner in
-    let w = g.K.RowTable.table c.place.new.self.inner in
-    let mid = c.loop-i.self.below in
     let b = c.args.bucket in
     let d = c.args.doc in
     let vs = values seg c.column-column.result d in
     let i = c.loop-i.i in
     let inv = c.loop-i.invariant in
-    rw (q.1, q.2) (sent_missed inv.0 inv.1
-    (subst (λ (m : ℕ). Missed (cache.plan mid) u.level m seg (At u (cache.stored mid c.loop-i.slots seg) (cache.waiting mid)) (λ k. b < k) (λ F. placed_at F b (step_of u.level c.in-Some.val) d) c.loop-i.limits c.place.new.limits (u.rows + cache.made mid) (w.rows + cache.made c.place.new.self.below) c.in_err-place.field-0.0)
-    c.loop-i.auto.slots c.in_err-place.ensures)
+    rw (q.1, q.2) (sent_missed c.loop-i.auto.slots inv.0 inv.1 c.in_err-place.ensures
     (λ F. subst (λ (G : Sorted). Within G (placed_all F b d (steps t.level seg d))) (sym (value_next F b d t.level u.level vs i c.in-Some.val inv.0 (sym c.in-Some.ensures)))
     (subst (λ (k : ℕ). Within (placed_all F b d (steps_of_values (step_of t.level) (take (i + 1) vs))) (placed_all F b d (steps_of_values (step_of t.level) (values seg k d)))) c.column-column.ensures (within-part F b d (step_of t.level) vs (i + 1)))))
 

@@ -1,5 +1,5 @@
 -- Each turn writes one row with the rows below it; at the end all that are listed are written.
-use Rattle.std.proofs.Common.{◌≡◌, ℕ, suc, List, [], ◌∷◌, ◌++◌, take, None, sym, refl, subst, arith, length-append}
+use Rattle.std.proofs.Common.{ℕ, suc, List, [], ◌∷◌, ◌++◌, take, None, sym, refl, subst, arith, length-append}
 use Rattle.records.specs.Rows.{Entry}
 use Rattle.segments.specs.Segments.{Seg}
 use Rattle.segments.proofs.Values.{more}

@@ -1,5 +1,5 @@
 -- The blocks of the rows before `index` are written, if there was room.
-use Rattle.std.proofs.Common.{ℕ, suc, ◌+◌, ◌-◌, ◌≤◌, List, length, take}
+use Rattle.std.proofs.Common.{ℕ, suc, ◌+◌, ◌≤◌, List, length, take}
 use Rattle.records.specs.Rows.{Entry}
 use Rattle.segments.specs.Segments.{Seg}
 use Rattle.stack.specs.Overruns.{Deliveries}
