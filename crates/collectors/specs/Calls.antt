@@ -9,7 +9,7 @@ use Rattle.stack.specs.Overruns.{Deliveries, added}
 use Rattle.stack.specs.Calls.{State, Holds, Accepted}
 use Rattle.stack.specs.Writing.{Feeding, tally_worth, Written, Put}
 use Rattle.rows.specs.Tables.{Table, Counted}
-use Rattle.collectors.specs.Filing.{Carries, Rows, Sorted, At, Sent, Missed, PutRefused}
+use Rattle.collectors.specs.Filing.{Carries, Rows, Sorted, sorted, on_top, At, Sent, Missed, PutRefused}
 use Rattle.collectors.specs.declared.bucket_collector.SegmentBucketCollector.{SegmentBucketCollector}
 
 -- what a cache holds, with what waits in it
@@ -24,6 +24,17 @@ rows_in table stored waiting c slots g n buckets = Rows (table c.inner).count bu
 abbrev pub filed_in : {K C T : Type 0} → (K → Table) → Holds C T → (C → Deliveries) → SegmentBucketCollector K C → List T → Seg → (n buckets : ℕ) → Sorted → Type 0
 filed_in table stored waiting c slots g = At (table c.inner) (stored c.below slots g) (waiting c.below)
 
+-- a level's deliveries, filed in its rows
+abbrev pub held_in : {K C T : Type 0} → (K → Table) → Holds C T → (C → Deliveries) → Holds (SegmentBucketCollector K C) T
+held_in table stored waiting c slots g n buckets D = filed_in table stored waiting c slots g n buckets (sorted (table c.inner).level g D)
+
+-- a level's plan, and how many rows were made, here and below
+abbrev pub plan_in : {K C : Type 0} → (K → Table) → (C → Plan) → SegmentBucketCollector K C → Plan
+plan_in table plan c = on_top (table c.inner).level (plan c.below)
+
+abbrev pub made_in : {K C : Type 0} → (K → Table) → (C → ℕ) → SegmentBucketCollector K C → ℕ
+made_in table made c = (table c.inner).rows + made c.below
+
 -- A document is counted in a row and sent on, or refused.
 abbrev pub PutIn : {K C T V : Type 0} → Result V Fault → (K → Table) → Holds C T → (C → Deliveries) → (C → Plan) → (C → ℕ) → Seg → (was is : State (SegmentBucketCollector K C) T) → (row doc : ℕ) → Type 0
 PutIn result table stored waiting plan made g was is row doc =
@@ -34,18 +45,20 @@ PutIn result table stored waiting plan made g was is row doc =
     (λ _. Counted t u row × Accepted held (λ c. plan c.below) (λ c. made c.below) g was is (λ n. n ≡ t.rows) (λ E. added E row (doc ∷ [])))
     (λ f. PutRefused t u (plan was.0.below) (length was.1) g (held was.0 was.1 g) row doc was.2 is.2 (made was.0.below) (made is.0.below) f)
 
--- What a call files for a bucket, at the level, is filed with what was filed before, or refused.
+-- What a call files for a bucket, at the level, is filed with what was filed before.
+abbrev pub FiledMore : {K C T : Type 0} → (K → Table) → Holds C T → (C → Deliveries) → (C → Plan) → (C → ℕ) → Seg → (was is : State (SegmentBucketCollector K C) T) → (bucket : ℕ) → (Lvl → Sorted → Sorted) → Type 0
+FiledMore table stored waiting plan made g was is bucket grows =
+    let l = (table was.0.inner).level in
+    ((table is.0.inner).level ≡ l)
+    × Sent (filed_in table stored waiting was.0 was.1 g) (filed_in table stored waiting is.0 is.1 g) (λ n. bucket < n) (grows l) (plan was.0.below) (plan is.0.below) was.2 is.2 (made_in table made was.0) (made_in table made is.0)
+
+-- The same, or the call is refused.
 abbrev pub Files : {K C T V : Type 0} → Result V Fault → (K → Table) → Holds C T → (C → Deliveries) → (C → Plan) → (C → ℕ) → Seg → (was is : State (SegmentBucketCollector K C) T) → (bucket : ℕ) → (Lvl → Sorted → Sorted) → Type 0
 Files result table stored waiting plan made g was is bucket grows =
-    let t = table was.0.inner in
-    let u = table is.0.inner in
-    let before = filed_in table stored waiting was.0 was.1 g in
-    let after = filed_in table stored waiting is.0 is.1 g in
-    let rows = t.rows + made was.0.below in
-    let rows' = u.rows + made is.0.below in
+    let l = (table was.0.inner).level in
     MatchResult result
-    (λ _. (u.level ≡ t.level) × Sent before after (λ n. bucket < n) (grows t.level) (plan was.0.below) (plan is.0.below) was.2 is.2 rows rows')
-    (λ f. Missed (plan was.0.below) t.level (length was.1) g before (λ n. bucket < n) (grows t.level) was.2 is.2 rows rows' f)
+    (λ _. FiledMore table stored waiting plan made g was is bucket grows)
+    (λ f. Missed (plan was.0.below) l (length was.1) g (filed_in table stored waiting was.0 was.1 g) (λ n. bucket < n) (grows l) was.2 is.2 (made_in table made was.0) (made_in table made is.0) f)
 
 -- A row is put into a slice, and after it the rows below it, if there is room for them all.
 abbrev pub PutRow : {T W : Type 0} → (T → W) → Feeding W → Plan → Seg → (path : List ℤ) (count : ℕ) (docs : List ℕ) → (was is : List (Row T)) → (at end : ℕ) → Type 0

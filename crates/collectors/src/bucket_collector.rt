@@ -9,8 +9,8 @@ ghost use Rattle.stack.specs.Levels.{steps, step_of};
 ghost use Rattle.stack.specs.Overruns.{Deliveries, numbered};
 ghost use Rattle.stack.specs.Calls.{Ready};
 ghost use Rattle.stack.specs.Writing.{above_steps};
-ghost use Rattle.collectors.specs.Filing.{sorted, on_top, At, Standing, placed_at, placed_all};
-ghost use Rattle.collectors.specs.Calls.{PutIn, PutRow, Files};
+ghost use Rattle.collectors.specs.Filing.{on_top, Standing, placed_at, placed_all};
+ghost use Rattle.collectors.specs.Calls.{plan_in, made_in, held_in, PutIn, PutRow, Files};
 ghost use Rattle.collectors.specs.Holding.{held_rows, held_complete};
 ghost use Rattle.collectors.specs.Carrying.{waits_none};
 ghost use Rattle.std.proofs.Common.{rules};
@@ -134,10 +134,7 @@ impl<K: RowTable, C: SubAggCache> SegmentBucketCollector<K, C> {
 fn path_below(above: Option<Path>, step: i64) -> Option<Path>
     ensures { MatchOption result (3 ≤ length (above_steps above)) (λ p. steps_of p ≡ above_steps above ++ (step ∷ [])) }
 {
-    match above {
-        None => Some(Path::first(step)),
-        Some(path) => path.extended(step),
-    }
+    above.map_or(Some(Path::first(step)), |path| path.extended(step))
 }
 
 /// Writes a row where there is room, and says where the next one goes.
@@ -156,19 +153,19 @@ impl<K: RowTable, C: SubAggCache> SegmentAggregationCollector for SegmentBucketC
 
     type Fruit = C::Fruit;
 
-    ghost plan = { λ c. on_top (K.table c.inner).level (C.plan c.below) };
+    ghost plan = { plan_in K.table C.plan };
 
     ghost asked = { λ q ranges types. on_top (K.asked q.level ranges types) (C.asked q.below ranges types) };
 
     ghost refused = { λ q ranges types n. option_or (K.refused q.level ranges types n) (C.refused q.below ranges types (numbered (n + 1))) };
 
-    ghost holds = { λ c slots g n b D. At (K.table c.inner) (C.stored c.below slots g) (C.waiting c.below) n b (sorted (K.table c.inner).level g D) };
+    ghost holds = { held_in K.table C.stored C.waiting };
 
     ghost settled = { λ c. (C.pending c.below ≡ 0) × C.rests c.below };
 
     ghost prepared = { λ c slots buckets. Standing (K.table c.inner) buckets × C.prepared c.below slots (K.table c.inner).rows };
 
-    ghost made = { λ c. (K.table c.inner).rows + C.made c.below };
+    ghost made = { made_in K.table C.made };
 
     ghost wider = { Prim.search rules };
 
