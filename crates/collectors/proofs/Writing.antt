@@ -21,8 +21,8 @@ pub put_none : {T W : Type 0} (worth : T → W) (was : List (Row T)) (at : ℕ) 
 put_none worth was at = record { rows = []; whole = sym (take-append-drop at was); size = omega arith; entries_are = refl }
 
 -- one part after another
-pub put_then : {T W : Type 0} (worth : T → W) (was mid is : List (Row T)) (at to end : ℕ) (xs ys : List (Entry W)) → end ≤ length was → Put worth was mid at to xs → Put worth mid is to end ys → Put worth was is at end (xs ++ ys)
-put_then worth was mid is at to end xs ys room p q =
+pub put_then : {T W : Type 0} {worth : T → W} {was mid is : List (Row T)} {at to end : ℕ} {xs ys : List (Entry W)} → end ≤ length was → Put worth was mid at to xs → Put worth mid is to end ys → Put worth was is at end (xs ++ ys)
+put_then {T} {W} {worth} {was} {mid} {is} {at} {to} {end} {xs} {ys} room p q =
     let sp = p.size in
     let sq = q.size in
     let ends : length (take at was ++ p.rows) ≡ to = length-append (take at was) p.rows ∙ (let z : length (take at was) + length p.rows ≡ to = omega (arith, length-take-le at was (omega arith)) in z) in
@@ -42,8 +42,8 @@ put_then worth was mid is at to end xs ys room p q =
     }
 
 -- one row
-pub put_one : {T W : Type 0} (worth : T → W) (was : List (Row T)) (at : ℕ) (row : Row T) (e : Entry W) → at < length was → entry_of worth row ≡ e → Put worth was (set was at row) at (at + 1) (e ∷ [])
-put_one worth was at row e h same = record {
+pub put_one : {T W : Type 0} {worth : T → W} {was : List (Row T)} {at : ℕ} (row : Row T) {e : Entry W} → at < length was → entry_of worth row ≡ e → Put worth was (set was at row) at (at + 1) (e ∷ [])
+put_one {T} {W} {worth} {was} {at} row {e} h same = record {
   rows = row ∷ [];
   whole = set_split was at row h ∙ ap (λ (n : ℕ). take at was ++ (row ∷ drop n was)) (let z : suc at ≡ at + 1 = omega arith in z);
   size = refl;
@@ -51,8 +51,8 @@ put_one worth was at row e h same = record {
 }
 
 -- as many rows as entries
-pub put_size : {T W : Type 0} (worth : T → W) (was is : List (Row T)) (at end : ℕ) (es : List (Entry W)) (p : Put worth was is at end es) → length p.rows ≡ length es
-put_size worth was is at end es p = sym (length-map p.rows (entry_of worth)) ∙ ap length p.entries_are
+pub put_size : {T W : Type 0} {worth : T → W} {was is : List (Row T)} {at end : ℕ} {es : List (Entry W)} (p : Put worth was is at end es) → length p.rows ≡ length es
+put_size {T} {W} {worth} {was} {is} {at} {end} {es} p = sym (length-map p.rows (entry_of worth)) ∙ ap length p.entries_are
 
 -- the blocks of rows by number, with documents E
 abbrev pub BlocksOf : {W : Type 0} → Feeding W → Plan → Seg → Table → Deliveries → List ℤ → List ℕ → List (Entry W) → Type 0

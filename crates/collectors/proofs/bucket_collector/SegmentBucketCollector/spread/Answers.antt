@@ -1,10 +1,10 @@
 -- Each turn places one value more; every index has one.
-use Rattle.std.proofs.Common.{◌≡◌, ℕ, ◌+◌, ◌<◌, List, take, ℤ, sym, refl, ap, ◌∙◌, subst, arith}
+use Rattle.std.proofs.Common.{◌≡◌, ℕ, ◌+◌, take, sym, refl, ap, ◌∙◌, subst, arith}
 use Rattle.std.proofs.lemmas.List.{take_all}
 use Rattle.std.proofs.lemmas.Result.{err_from_is_err_and}
 use Rattle.segments.specs.Segments.{values}
 use Rattle.stack.specs.Levels.{step_of, steps_of_values, steps}
-use Rattle.collectors.specs.Filing.{Sorted, At, Sent, Within, placed_all}
+use Rattle.collectors.specs.Filing.{Sorted, Within, placed_all}
 use Rattle.collectors.specs.Spreading.{sent_none, sent_then, sent_missed, value_next, within-part}
 use Rattle.collectors.proofs.Writing.{read_none}
 use Rattle.collectors.proofs.bucket_collector.SegmentBucketCollector.spread.Goals.{in-Some+in_ok-place, in_default}
@@ -45,20 +45,12 @@ returns-in_err-place g c =
 
 pub returns : goal.returns
 returns g c =
-    let cache = g.C.SubAggCache in
     let seg = g.S.Segment.means c.args.seg.now in
     let t = g.K.RowTable.table c.args.self.now.inner in
-    let u = g.K.RowTable.table c.loop-i.self.inner in
-    let was = c.args.self.now.below in
-    let is = c.loop-i.self.below in
     let d = c.args.doc in
-    let b = c.args.bucket in
     let vs = values seg c.column-column.result d in
     let i = c.loop-i.i in
     let inv = c.loop-i.invariant in
     let whole : steps_of_values (step_of t.level) (take i vs) ≡ steps t.level seg d =
-    ap (steps_of_values (step_of t.level)) (take_all i vs (omega (arith, c.loop-i-test.false, c.num_values-i-end.ensures)) ∙ ap (λ (k : ℕ). values seg k d) c.column-column.ensures) in (
-      inv.0,
-      subst (λ (ss : List ℤ). Sent (At t (cache.stored was c.args.slots.now seg) (cache.waiting was)) (At u (cache.stored is c.loop-i.slots seg) (cache.waiting is))
-          (λ k. b < k) (λ F. placed_all F b d ss) (cache.plan was) (cache.plan is) c.args.limits.now c.loop-i.limits (t.rows + cache.made was) (u.rows + cache.made is)) whole inv.1,
-    )
+    ap (steps_of_values (step_of t.level)) (take_all i vs (omega (arith, c.loop-i-test.false, c.num_values-i-end.ensures)) ∙ ap (λ (k : ℕ). values seg k d) c.column-column.ensures) in
+    (inv.0, simp whole at inv.1)

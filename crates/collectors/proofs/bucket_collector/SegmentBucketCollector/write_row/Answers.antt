@@ -38,9 +38,8 @@ returns g c = λ seg n buckets E rests prepared inside stored depth.
             let wrote = c.put_row-next.ensures room1 in
             let room2 : c.put_row-next.result + length es ≤ length c.put_row-next.new.out = omega (arith, room, wrote.1, c.put_row-next.auto.out) in
             let rest = subst (λ (k : ℕ). Put tally.worth c.put_row-next.new.out c.write_rows.new.out k c.write_rows.result es) wrote.1 (below.1.1 room2) in
-            put_then tally.worth c.args.out.now c.put_row-next.new.out c.write_rows.new.out c.args.at (c.args.at + 1) c.write_rows.result (entry ∷ []) es
-            (omega (arith, room, rest.size, put_size tally.worth c.put_row-next.new.out c.write_rows.new.out (c.args.at + 1) c.write_rows.result es rest))
-            (subst (λ z. Put tally.worth c.args.out.now z c.args.at (c.args.at + 1) (entry ∷ [])) (sym wrote.0) (put_one tally.worth c.args.out.now c.args.at row entry room1 same))
+            put_then (omega (arith, room, rest.size, put_size rest))
+            (subst (λ z. Put tally.worth c.args.out.now z c.args.at (c.args.at + 1) (entry ∷ [])) (sym wrote.0) (put_one row room1 same))
             rest,
       ),
     )

@@ -44,11 +44,10 @@ loop-index-preserved g c = λ seg n E rests prepared stored depth.
         λ room.
             let size = length-append es (entry ∷ bs) in
             let first = inv.1.1 (omega (arith, room, size)) in
-            let fill = put_size tally.worth c.args.out.now c.loop-index.out c.args.at c.loop-index.end es first in
+            let fill = put_size first in
             let second = one.1.1 (omega (arith, room, size, first.size, fill, c.loop-index.auto.out)) in
-            let fill2 = put_size tally.worth c.loop-index.out c.write_row-end.new.out c.loop-index.end c.write_row-end.result (entry ∷ bs) second in
-            put_then tally.worth c.args.out.now c.loop-index.out c.write_row-end.new.out c.args.at c.loop-index.end c.write_row-end.result es (entry ∷ bs)
-            (omega (arith, room, size, first.size, fill, second.size, fill2)) first second,
+            let fill2 = put_size second in
+            put_then (omega (arith, room, size, first.size, fill, second.size, fill2)) first second,
       ),
     )
 
