@@ -11,7 +11,7 @@ use Rattle.segments.specs.Segments.{Seg}
 use Rattle.stack.specs.Levels.{Plan, row_docs, Step}
 use Rattle.stack.specs.Overruns.{Deliveries, none_yet, Place, Exists, All, Distinct}
 use Rattle.stack.proofs.Bounds.{crowd_few}
-use Rattle.stack.specs.Writing.{Feeding, row_worth, Blocks, StepsAre, Written, Put, PutBelow}
+use Rattle.stack.specs.Writing.{Feeding, row_worth, tally_worth, Blocks, StepsAre, Written, Put, PutBelow}
 use Rattle.rows.specs.Tables.{Table, Has, Sound, Listed}
 use Rattle.collectors.specs.Filing.{Filed, Standing, sorted, on_top}
 use Rattle.collectors.specs.Holding.{steps-held, has_step}
@@ -54,20 +54,24 @@ put_one {T} {W} {worth} {was} {at} row {e} h same = record {
 pub put_size : {T W : Type 0} {worth : T → W} {was is : List (Row T)} {at end : ℕ} {es : List (Entry W)} (p : Put worth was is at end es) → length p.rows ≡ length es
 put_size {T} {W} {worth} {was} {is} {at} {end} {es} p = sym (length-map p.rows (entry_of worth)) ∙ ap length p.entries_are
 
+-- the entry of a row by number, with documents E
+abbrev pub entry_at : {W : Type 0} → Feeding W → Plan → Seg → Table → Deliveries → List ℤ → ℕ → Entry W
+entry_at f plan g t E above k = record { path = above ++ (t.step k ∷ []); count = t.count k; worth = tally_worth f plan g (E k) }
+
 -- the blocks of rows by number, with documents E
 abbrev pub BlocksOf : {W : Type 0} → Feeding W → Plan → Seg → Table → Deliveries → List ℤ → List ℕ → List (Entry W) → Type 0
 BlocksOf f plan g t E above [] es = es ≡ []
 BlocksOf f plan g t E above (k ∷ ks) es =
-    (bs : List _) × ((rest : List _) × ((es ≡ record { path = above ++ (t.step k ∷ []); count = t.count k; worth = row_worth f plan.levels plan.column plan.field_type g (E k) } ∷ (bs ++ rest))
+    (bs : List _) × ((rest : List _) × ((es ≡ entry_at f plan g t E above k ∷ (bs ++ rest))
     × (Written f plan.column plan.field_type g plan.levels (above ++ (t.step k ∷ [])) (E k) bs × BlocksOf f plan g t E above ks rest)))
 
 pub blocks_more : {W : Type 0} (f : Feeding W) (plan : Plan) (g : Seg) (t : Table) (E : Deliveries) (above : List ℤ) (ks : List ℕ) (es : List (Entry W)) (k : ℕ) (bs : List (Entry W)) → BlocksOf f plan g t E above ks es → Written f plan.column plan.field_type g plan.levels (above ++ (t.step k ∷ [])) (E k) bs
-    → BlocksOf f plan g t E above (ks ++ (k ∷ [])) (es ++ (record { path = above ++ (t.step k ∷ []); count = t.count k; worth = row_worth f plan.levels plan.column plan.field_type g (E k) } ∷ bs))
+    → BlocksOf f plan g t E above (ks ++ (k ∷ [])) (es ++ (entry_at f plan g t E above k ∷ bs))
 blocks_more {W} f plan g t E above [] es k bs e x =
-    (bs, ([], (ap (λ z. z ++ (record { path = above ++ (t.step k ∷ []); count = t.count k; worth = row_worth f plan.levels plan.column plan.field_type g (E k) } ∷ bs)) e ∙ ap (λ z. record { path = above ++ (t.step k ∷ []); count = t.count k; worth = row_worth f plan.levels plan.column plan.field_type g (E k) } ∷ z) (sym (append-nil bs)), (x, refl))))
+    (bs, ([], (ap (λ z. z ++ (entry_at f plan g t E above k ∷ bs)) e ∙ ap (λ z. entry_at f plan g t E above k ∷ z) (sym (append-nil bs)), (x, refl))))
 blocks_more {W} f plan g t E above (j ∷ ks) es k bs (cs, (rest, (e, (y, z)))) x =
-    let own : Entry W = record { path = above ++ (t.step k ∷ []); count = t.count k; worth = row_worth f plan.levels plan.column plan.field_type g (E k) } in
-    (cs, (rest ++ (own ∷ bs), (ap (λ v. v ++ (own ∷ bs)) e ∙ ap (λ v. record { path = above ++ (t.step j ∷ []); count = t.count j; worth = row_worth f plan.levels plan.column plan.field_type g (E j) } ∷ v) (append_assoc cs rest (own ∷ bs)), (y, blocks_more f plan g t E above ks rest k bs z x))))
+    let own : Entry W = entry_at f plan g t E above k in
+    (cs, (rest ++ (own ∷ bs), (ap (λ v. v ++ (own ∷ bs)) e ∙ ap (λ v. entry_at f plan g t E above j ∷ v) (append_assoc cs rest (own ∷ bs)), (y, blocks_more f plan g t E above ks rest k bs z x))))
 
 -- ---- reading a list by index
 pub read_some : (xs : List ℕ) (i v : ℕ) → slice_get xs i ≡ Some v → (i < length xs) × (get_or xs i 0 ≡ v)

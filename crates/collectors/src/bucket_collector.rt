@@ -42,6 +42,7 @@ pub struct LevelRequest<R, B> {
     pub below: B,
 }
 
+// The segment, the limits and the slots stay three parameters, as the interface lends them.
 impl<K: RowTable, C: SubAggCache> SegmentBucketCollector<K, C> {
     /// Counts a document in a row, and sends it on.
     fn put<S: Segment>(
@@ -95,7 +96,8 @@ impl<K: RowTable, C: SubAggCache> SegmentBucketCollector<K, C> {
             bucket (λ l F. placed_all F bucket doc (steps l (S.means seg.now) doc)) }
     {
         let column = self.inner.column();
-        // By index: a segment may hold its values in any form, so it lends no slice of them.
+        // By index: a segment may hold its values in any form and lends no slice of them, and a `for` over a chain with a
+        // closure does not prove in a generic function.
         for i in 0..seg.num_values(column, doc) {
             if let Some(val) = seg.value_at(column, doc, i) {
                 self.place(seg, limits, slots, bucket, val, doc)?;
@@ -117,7 +119,8 @@ impl<K: RowTable, C: SubAggCache> SegmentBucketCollector<K, C> {
         ensures { let t = K.table self.now.inner in
             let plan = C.plan self.now.below in
             let path = above_steps above ++ (t.step row ∷ []) in
-            Ready C.stored C.rests C.prepared self.now.below slots.now row (λ g docs. length path + length plan.levels ≤ 3 → PutRow C.Fruit.Tally.worth record { nothing = C.Fruit.Tally.nothing; fed = C.Fruit.Tally.fed } plan g path (t.count row) docs out.old out.new at result) }
+            Ready C.stored C.rests C.prepared self.now.below slots.now row (λ g docs. length path + length plan.levels ≤ 3
+            → PutRow C.Fruit.Tally.worth record { nothing = C.Fruit.Tally.nothing; fed = C.Fruit.Tally.fed } plan g path (t.count row) docs out.old out.new at result) }
     {
         let Some(path) = path_below(above, self.inner.step_of(row)) else {
             return at;
@@ -141,6 +144,7 @@ fn path_below(above: Option<Path>, step: i64) -> Option<Path>
 fn put_row<T: Tally>(out: &mut [Row<T>], at: usize, row: Row<T>) -> usize
     ensures { at < length out.old → (out.new ≡ set out.old at row) × (result ≡ at + 1) }
 {
+    // Not by `get_mut`, after which a proof knows nothing of the slice's elements.
     if at >= out.len() {
         return at;
     }
@@ -251,7 +255,7 @@ impl<K: RowTable, C: SubAggCache> SegmentAggregationCollector for SegmentBucketC
         at: usize,
     ) -> usize {
         let mut end = at;
-        // By index: the table may hold a bucket's rows in any form, so it lends no slice of them.
+        // By index, as in `spread`: the table may hold a bucket's rows in any form.
         for index in 0..self.inner.num_rows() {
             let Some(row) = self.inner.row_at(bucket, index) else {
                 break;

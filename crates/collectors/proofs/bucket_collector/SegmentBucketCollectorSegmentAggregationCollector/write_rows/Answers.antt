@@ -1,11 +1,10 @@
 -- Each turn writes one row with the rows below it; at the end all that are listed are written.
 use Rattle.std.proofs.Common.{ℕ, suc, List, [], ◌∷◌, ◌++◌, take, None, sym, refl, subst, arith, length-append}
-use Rattle.records.specs.Rows.{Entry}
 use Rattle.segments.specs.Segments.{Seg}
 use Rattle.segments.proofs.Values.{more}
-use Rattle.stack.specs.Writing.{above_steps, Feeding, row_worth}
+use Rattle.stack.specs.Writing.{above_steps, Feeding}
 use Rattle.collectors.specs.Carrying.{waits_none, carry_none}
-use Rattle.collectors.proofs.Writing.{BlocksOf, blocks_more, put_none, put_then, put_size, read_none, listed_row, listed_few, all_put}
+use Rattle.collectors.proofs.Writing.{BlocksOf, entry_at, blocks_more, put_none, put_then, put_size, read_none, listed_row, listed_few, all_put}
 use Rattle.collectors.proofs.bucket_collector.SegmentBucketCollectorSegmentAggregationCollector.write_rows.Goals as goal
 
 -- some segment, where any will do
@@ -37,7 +36,7 @@ loop-index-preserved g c = λ seg n E rests prepared stored depth.
     let one = c.write_row-end.ensures seg n t.rows E rests prepared there stored (omega (arith, depth, length-append above (t.step k ∷ []))) in
     let es = inv.0 in
     let bs = one.0 in
-    let entry : Entry tally.Worth = record { path = above ++ (t.step k ∷ []); count = t.count k; worth = row_worth feeding plan.levels plan.column plan.field_type seg (E k) } in (
+    let entry = entry_at feeding plan seg t E above k in (
       es ++ (entry ∷ bs),
       (
         subst (λ (ks : List ℕ). BlocksOf feeding plan seg t E above ks (es ++ (entry ∷ bs))) (sym (more listed i k read)) (blocks_more feeding plan seg t E above (take i listed) es k bs inv.1.0 one.1.0),
