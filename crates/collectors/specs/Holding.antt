@@ -15,11 +15,12 @@ use Rattle.stack.specs.Overruns.{Deliveries, none_yet, added, all_added, Crowd, 
 use Rattle.stack.specs.Calls.{Went, Overran, Inside}
 use Rattle.stack.proofs.Chaining.{charged_with, stopped_with}
 use Rattle.stack.proofs.Bounds.{complete-up}
-use Rattle.stack.proofs.Delivering.{more_all_added, all_added_none}
+use Rattle.stack.proofs.Delivering.{more_all_added}
 use Rattle.stack.proofs.Readings.{step_same, step_true}
 use Rattle.stack.proofs.Overrunning.{overrun_more}
 use Rattle.rows.specs.Tables.{Table, Always, Has, Sound, Prepared, Unprepared}
 use Rattle.collectors.specs.Filing.{Carries, Rows, Sorted, sorted, Filed, Within, At, Sent, Missed, placed_all, on_top, Standing}
+use Rattle.collectors.specs.Carrying.{carry_none}
 use Rattle.collectors.specs.Naming.{stands_step, lifted, rows-here}
 use Rattle.collectors.specs.Placing.{within_refl, filed-grown}
 use Rattle.collectors.specs.Putting.{rows_inside}
@@ -220,6 +221,4 @@ pub held_complete : (t : Table) (sound : Sound t) (ls : List Lvl) (slots : ℕ) 
     → ((E : Deliveries) → A (suc n) t.rows E → Complete ls slots g t.rows E m) → At t A ws n nb (sorted t.level g D) → Complete (t.level ∷ ls) slots g nb D (t.rows + m)
 held_complete t sound ls slots g n nb A ws D m none standing below x =
     let y = x.filed in
-    let same : y.of_rows.carries.under ≡ y.docs_of = sym (all_added_none y.of_rows.carries.under ws none) ∙ y.of_rows.carries.whole in
-    complete-up t.level ls g nb t.rows y.docs_of D (held_numbers t sound g nb (Carries (A (suc n) t.rows) ws) D y standing) slots m sound.few
-    (subst (λ (E : Deliveries). Complete ls slots g t.rows E m) same (below y.of_rows.carries.under y.of_rows.carries.stores))
+    complete-up t.level ls g nb t.rows y.docs_of D (held_numbers t sound g nb (Carries (A (suc n) t.rows) ws) D y standing) slots m sound.few (below y.docs_of (carry_none none y.of_rows.carries))
