@@ -4,23 +4,25 @@ use Rattle.std.specs.List.{slice_get}
 use Rattle.std.proofs.lemmas.Option.{slice_get-get_or, slice_get_past}
 use Rattle.std.proofs.lemmas.Bool.{cases_lt}
 use lib.Signed.{<ℤ_irrefl}
-use Rattle.std.proofs.lemmas.List.{length-map, get_or-map, append-nil, map-append, length-take-le, take_at, drop_at, take-append-drop, set_split, drop-drop}
+use Rattle.std.proofs.lemmas.List.{length-map, get_or-map, append-nil, map-append, length-take-le, take_all, take_at, drop_at, take-append-drop, set_split, drop-drop}
 use Rattle.records.specs.Rows.{Entry, entry_of}
 use Rattle.records.specs.declared.row.Row.{Row}
 use Rattle.segments.specs.Segments.{Seg}
 use Rattle.stack.specs.Levels.{Plan, row_docs, Step}
 use Rattle.stack.specs.Overruns.{Deliveries, none_yet, Place, Exists, All, Distinct}
 use Rattle.stack.proofs.Bounds.{crowd_few}
-use Rattle.stack.specs.Writing.{Feeding, row_worth, Blocks, StepsAre, Written, Put}
+use Rattle.stack.specs.Writing.{Feeding, row_worth, tally_worth, Blocks, StepsAre, Written, Put, PutBelow}
 use Rattle.rows.specs.Tables.{Table, Has, Sound, Listed}
+use Rattle.collectors.specs.Filing.{Filed, Standing, sorted, on_top}
+use Rattle.collectors.specs.Holding.{steps-held, has_step}
 
 -- nothing put
 pub put_none : {T W : Type 0} (worth : T → W) (was : List (Row T)) (at : ℕ) → Put worth was was at at []
 put_none worth was at = record { rows = []; whole = sym (take-append-drop at was); size = omega arith; entries_are = refl }
 
 -- one part after another
-pub put_then : {T W : Type 0} (worth : T → W) (was mid is : List (Row T)) (at to end : ℕ) (xs ys : List (Entry W)) → end ≤ length was → Put worth was mid at to xs → Put worth mid is to end ys → Put worth was is at end (xs ++ ys)
-put_then worth was mid is at to end xs ys room p q =
+pub put_then : {T W : Type 0} {worth : T → W} {was mid is : List (Row T)} {at to end : ℕ} {xs ys : List (Entry W)} → end ≤ length was → Put worth was mid at to xs → Put worth mid is to end ys → Put worth was is at end (xs ++ ys)
+put_then {T} {W} {worth} {was} {mid} {is} {at} {to} {end} {xs} {ys} room p q =
     let sp = p.size in
     let sq = q.size in
     let ends : length (take at was ++ p.rows) ≡ to = length-append (take at was) p.rows ∙ (let z : length (take at was) + length p.rows ≡ to = omega (arith, length-take-le at was (omega arith)) in z) in
@@ -40,8 +42,8 @@ put_then worth was mid is at to end xs ys room p q =
     }
 
 -- one row
-pub put_one : {T W : Type 0} (worth : T → W) (was : List (Row T)) (at : ℕ) (row : Row T) (e : Entry W) → at < length was → entry_of worth row ≡ e → Put worth was (set was at row) at (at + 1) (e ∷ [])
-put_one worth was at row e h same = record {
+pub put_one : {T W : Type 0} {worth : T → W} {was : List (Row T)} {at : ℕ} (row : Row T) {e : Entry W} → at < length was → entry_of worth row ≡ e → Put worth was (set was at row) at (at + 1) (e ∷ [])
+put_one {T} {W} {worth} {was} {at} row {e} h same = record {
   rows = row ∷ [];
   whole = set_split was at row h ∙ ap (λ (n : ℕ). take at was ++ (row ∷ drop n was)) (let z : suc at ≡ at + 1 = omega arith in z);
   size = refl;
@@ -49,23 +51,27 @@ put_one worth was at row e h same = record {
 }
 
 -- as many rows as entries
-pub put_size : {T W : Type 0} (worth : T → W) (was is : List (Row T)) (at end : ℕ) (es : List (Entry W)) (p : Put worth was is at end es) → length p.rows ≡ length es
-put_size worth was is at end es p = sym (length-map p.rows (entry_of worth)) ∙ ap length p.entries_are
+pub put_size : {T W : Type 0} {worth : T → W} {was is : List (Row T)} {at end : ℕ} {es : List (Entry W)} (p : Put worth was is at end es) → length p.rows ≡ length es
+put_size {T} {W} {worth} {was} {is} {at} {end} {es} p = sym (length-map p.rows (entry_of worth)) ∙ ap length p.entries_are
+
+-- the entry of a row by number, with documents E
+abbrev pub entry_at : {W : Type 0} → Feeding W → Plan → Seg → Table → Deliveries → List ℤ → ℕ → Entry W
+entry_at f plan g t E above k = record { path = above ++ (t.step k ∷ []); count = t.count k; worth = tally_worth f plan g (E k) }
 
 -- the blocks of rows by number, with documents E
 abbrev pub BlocksOf : {W : Type 0} → Feeding W → Plan → Seg → Table → Deliveries → List ℤ → List ℕ → List (Entry W) → Type 0
 BlocksOf f plan g t E above [] es = es ≡ []
 BlocksOf f plan g t E above (k ∷ ks) es =
-    (bs : List _) × ((rest : List _) × ((es ≡ record { path = above ++ (t.step k ∷ []); count = t.count k; worth = row_worth f plan.levels plan.column plan.field_type g (E k) } ∷ (bs ++ rest))
+    (bs : List _) × ((rest : List _) × ((es ≡ entry_at f plan g t E above k ∷ (bs ++ rest))
     × (Written f plan.column plan.field_type g plan.levels (above ++ (t.step k ∷ [])) (E k) bs × BlocksOf f plan g t E above ks rest)))
 
 pub blocks_more : {W : Type 0} (f : Feeding W) (plan : Plan) (g : Seg) (t : Table) (E : Deliveries) (above : List ℤ) (ks : List ℕ) (es : List (Entry W)) (k : ℕ) (bs : List (Entry W)) → BlocksOf f plan g t E above ks es → Written f plan.column plan.field_type g plan.levels (above ++ (t.step k ∷ [])) (E k) bs
-    → BlocksOf f plan g t E above (ks ++ (k ∷ [])) (es ++ (record { path = above ++ (t.step k ∷ []); count = t.count k; worth = row_worth f plan.levels plan.column plan.field_type g (E k) } ∷ bs))
+    → BlocksOf f plan g t E above (ks ++ (k ∷ [])) (es ++ (entry_at f plan g t E above k ∷ bs))
 blocks_more {W} f plan g t E above [] es k bs e x =
-    (bs, ([], (ap (λ z. z ++ (record { path = above ++ (t.step k ∷ []); count = t.count k; worth = row_worth f plan.levels plan.column plan.field_type g (E k) } ∷ bs)) e ∙ ap (λ z. record { path = above ++ (t.step k ∷ []); count = t.count k; worth = row_worth f plan.levels plan.column plan.field_type g (E k) } ∷ z) (sym (append-nil bs)), (x, refl))))
+    (bs, ([], (ap (λ z. z ++ (entry_at f plan g t E above k ∷ bs)) e ∙ ap (λ z. entry_at f plan g t E above k ∷ z) (sym (append-nil bs)), (x, refl))))
 blocks_more {W} f plan g t E above (j ∷ ks) es k bs (cs, (rest, (e, (y, z)))) x =
-    let own : Entry W = record { path = above ++ (t.step k ∷ []); count = t.count k; worth = row_worth f plan.levels plan.column plan.field_type g (E k) } in
-    (cs, (rest ++ (own ∷ bs), (ap (λ v. v ++ (own ∷ bs)) e ∙ ap (λ v. record { path = above ++ (t.step j ∷ []); count = t.count j; worth = row_worth f plan.levels plan.column plan.field_type g (E j) } ∷ v) (append_assoc cs rest (own ∷ bs)), (y, blocks_more f plan g t E above ks rest k bs z x))))
+    let own : Entry W = entry_at f plan g t E above k in
+    (cs, (rest ++ (own ∷ bs), (ap (λ v. v ++ (own ∷ bs)) e ∙ ap (λ v. entry_at f plan g t E above j ∷ v) (append_assoc cs rest (own ∷ bs)), (y, blocks_more f plan g t E above ks rest k bs z x))))
 
 -- ---- reading a list by index
 pub read_some : (xs : List ℕ) (i v : ℕ) → slice_get xs i ≡ Some v → (i < length xs) × (get_or xs i 0 ≡ v)
@@ -101,10 +107,12 @@ few_numbers n ks g below apart =
       many = omega (arith, length-map {B = Place} ks (λ (k : ℕ). (k, [])));
     }
 
-pub listed_few : (t : Table) (b : ℕ) (ks : List ℕ) (g : Seg) → Sound t → Listed t b ks → length ks ≤ 512
-listed_few t b ks g sound l =
-    let n = few_numbers t.rows ks g (λ i h. (l.below i h).0) (λ i j a h e. <ℤ_irrefl (subst (λ (k : ℕ). t.step (get_or ks i 0) <ℤ t.step k) (sym e) (l.rises i j a h))) in
-    omega (arith, n, sound.few)
+-- a row that is listed is one of the table's, and no more are listed than there are
+pub listed_row : (t : Table) (b : ℕ) (ks : List ℕ) (i k : ℕ) → Listed t b ks → slice_get ks i ≡ Some k → k < t.rows
+listed_row t b ks i k l e = let here = read_some ks i k e in subst (λ (j : ℕ). j < t.rows) here.1 (l.below i here.0).0
+
+pub listed_few : (t : Table) (b : ℕ) (ks : List ℕ) (g : Seg) → Listed t b ks → length ks ≤ t.rows
+listed_few t b ks g l = few_numbers t.rows ks g (λ i h. (l.below i h).0) (λ i j a h e. <ℤ_irrefl (subst (λ (k : ℕ). t.step (get_or ks i 0) <ℤ t.step k) (sym e) (l.rises i j a h)))
 
 -- ---- the rows listed are those that exist
 module _ {W : Type 0} (f : Feeding W) (plan : Plan) (g : Seg) (t : Table) (E : Deliveries) (above : List ℤ) (docs : List ℕ) where
@@ -145,3 +153,26 @@ steps_listed t g b docs ks l stands has = record {
       let i = l.all k.0 k.1.0 k.1.1.0 in
       (i.0, (omega (arith, length-map ks t.step, i.1.0), λ d. get_or-map t.step ks i.0 0 d i.1.0 ∙ ap t.step i.1.1 ∙ k.1.1.1));
 }
+
+-- where every row that is listed is put, the level's are
+pub all_put : {T W : Type 0} {worth : T → W} (f : Feeding W) (plan : Plan) (g : Seg) (t : Table) → Sound t → {carried : Deliveries → Type 0} {buckets b : ℕ} (D : Deliveries) (y : Filed t buckets carried (sorted t.level g D)) → Standing t buckets → b < buckets
+    → {ks : List ℕ} → Listed t b ks → (above : List ℤ) {was is : List (Row T)} {at end i : ℕ} → length ks ≤ i
+    → (es : List (Entry W)) × (BlocksOf f plan g t y.docs_of above (take i ks) es × (at + length es ≤ length was → Put worth was is at end es))
+    → PutBelow worth f (on_top t.level plan) g above (D b) was is at end
+all_put {T} {W} {worth} f plan g t sound {carried} {buckets} {b} D y standing below {ks} lists above {was} {is} {at} {end} {i} all (es, (blocks, put)) = (
+  es,
+  (
+    (
+      map t.step ks,
+      (
+        steps_listed t g b (D b) ks lists
+            (λ k h e. subst (λ (j : ℕ). Step t.level g (D j) (t.step k)) e (steps-held t sound g 0 buckets carried D y k h))
+            (λ s st. has_step t g buckets buckets carried D y standing b s below st),
+        blocks-written f plan g t y.docs_of above (D b) ks es
+            (λ j h. let low = lists.below j h in (y.docs (get_or ks j 0) low.0 ∙ ap (λ (k : ℕ). row_docs t.level g (t.step (get_or ks j 0)) (D k)) low.1, y.of_rows.counted (get_or ks j 0) low.0))
+            (subst (λ (js : List ℕ). BlocksOf f plan g t y.docs_of above js es) (take_all i ks all) blocks),
+      ),
+    ),
+    put,
+  ),
+)

@@ -87,11 +87,6 @@ abbrev pub placed_at : Sorted → ℕ → Option ℤ → ℕ → Sorted
 placed_at F b None d = F
 placed_at F b (Some s) d = placed F b s d
 
--- the step of a value that there is
-abbrev pub step_at : (ℕ → Option ℤ) → Option ℕ → Option ℤ
-step_at step None = None
-step_at step (Some v) = step v
-
 -- a row stands below every bucket at every step where one always does
 abbrev pub Standing : Table → ℕ → Type 0
 Standing t buckets = (b : ℕ) (s : ℤ) → b < buckets → Always t.level s → Has t b s

@@ -15,11 +15,12 @@ use Rattle.stack.specs.Overruns.{Deliveries, none_yet, added, all_added, Crowd, 
 use Rattle.stack.specs.Calls.{Went, Overran, Inside}
 use Rattle.stack.proofs.Chaining.{charged_with, stopped_with}
 use Rattle.stack.proofs.Bounds.{complete-up}
-use Rattle.stack.proofs.Delivering.{more_all_added, all_added_none}
+use Rattle.stack.proofs.Delivering.{more_all_added}
 use Rattle.stack.proofs.Readings.{step_same, step_true}
 use Rattle.stack.proofs.Overrunning.{overrun_more}
 use Rattle.rows.specs.Tables.{Table, Always, Has, Sound, Prepared, Unprepared}
 use Rattle.collectors.specs.Filing.{Carries, Rows, Sorted, sorted, Filed, Within, At, Sent, Missed, placed_all, on_top, Standing}
+use Rattle.collectors.specs.Carrying.{carry_none}
 use Rattle.collectors.specs.Naming.{stands_step, lifted, rows-here}
 use Rattle.collectors.specs.Placing.{within_refl, filed-grown}
 use Rattle.collectors.specs.Putting.{rows_inside}
@@ -27,19 +28,18 @@ use Rattle.collectors.specs.Sending.{prepare_overrun}
 use Rattle.collectors.specs.Spreading.{sorted_more}
 
 -- ---- a document
-pub sent_went : (t u : Table) (g : Seg) (X Y : (n buckets : ℕ) → Sorted → Type 0) (b d : ℕ) (p q : Plan) (a c : AggregationLimits) (k m : ℕ) → u.level ≡ t.level
+pub sent_went : (t u : Table) (g : Seg) {X Y : (n buckets : ℕ) → Sorted → Type 0} {b : ℕ} (d : ℕ) {p q : Plan} {a c : AggregationLimits} {k m : ℕ} → u.level ≡ t.level
     → Sent X Y (λ n. b < n) (λ F. placed_all F b d (steps t.level g d)) p q a c k m
     → Went (λ n nb D. X n nb (sorted t.level g D)) (λ n nb D. Y n nb (sorted u.level g D)) (λ n. b < n) (λ D. added D b (d ∷ [])) (on_top t.level p) (on_top u.level q) a c k m
-sent_went t u g X Y b d p q a c k m e s = record {
+sent_went t u g {X} {Y} {b} d {p} {q} {a} {c} {k} {m} e s = record {
   keeps = λ n nb h D x. subst (λ (l : Lvl). Y n nb (sorted l g (added D b (d ∷ [])))) (sym e) (subst (Y n nb) (sorted_more t.level g D b d) (s.keeps n nb h (sorted t.level g D) x));
   same_plan = ap₂ on_top e s.same_plan;
   charged = s.charged;
 }
 
-pub missed_overran : (l : Lvl) (slots : ℕ) (g : Seg) (X : (n buckets : ℕ) → Sorted → Type 0) (b d : ℕ) (p : Plan) (a c : AggregationLimits) (k m : ℕ) (f : Fault)
-    → Missed p l slots g X (λ n. b < n) (λ F. placed_all F b d (steps l g d)) a c k m f
+pub missed_overran : {l : Lvl} {slots : ℕ} {g : Seg} {X : (n buckets : ℕ) → Sorted → Type 0} {b : ℕ} (d : ℕ) {p : Plan} {a c : AggregationLimits} {k m : ℕ} {f : Fault} → Missed p l slots g X (λ n. b < n) (λ F. placed_all F b d (steps l g d)) a c k m f
     → Overran 1 (on_top l p) slots g (λ n nb D. X n nb (sorted l g D)) (λ n. b < n) (λ D. added D b (d ∷ [])) a c k m f
-missed_overran l slots g X b d p a c k m f o = record {
+missed_overran {l} {slots} {g} {X} {b} d {p} {a} {c} {k} {m} {f} o = record {
   stopped = o.stopped;
   overrun = λ n nb others D h x used. o.overrun n nb others (sorted l g D) (added D b (d ∷ [])) h x used
       (subst (λ (G : Sorted). Within G (sorted l g (added D b (d ∷ [])))) (sym (sorted_more l g D b d)) (within_refl (sorted l g (added D b (d ∷ [])))));
@@ -59,20 +59,18 @@ at_carried t A B ws us n nb F f x = record {
   };
 }
 
-pub carried_by : (t : Table) (g : Seg) (A B : ℕ → ℕ → Deliveries → Type 0) (ws us : Deliveries) (ins inside : ℕ → Type 0) (p q : Plan) (a c : AggregationLimits) (k m : ℕ)
-    → ((n : ℕ) (E : Deliveries) → Rows t.count t.rows (Carries (A n t.rows) ws) E → ins t.rows)
+pub carried_by : {t : Table} (g : Seg) {A B : ℕ → ℕ → Deliveries → Type 0} {ws us : Deliveries} {ins inside : ℕ → Type 0} {p q : Plan} {a c : AggregationLimits} {k m : ℕ} → ((n : ℕ) (E : Deliveries) → Rows t.count t.rows (Carries (A n t.rows) ws) E → ins t.rows)
     → Went (λ n b. Carries (A n b) ws) (λ n b. Carries (B n b) us) ins (λ E. E) p q a c k m
     → Went (λ n nb D. At t A ws n nb (sorted t.level g D)) (λ n nb D. At t B us n nb (sorted t.level g D)) inside (λ D. D) (on_top t.level p) (on_top t.level q) a c (t.rows + k) (t.rows + m)
-carried_by t g A B ws us ins inside p q a c k m here w = record {
+carried_by {t} g {A} {B} {ws} {us} {ins} {inside} {p} {q} {a} {c} {k} {m} here w = record {
   keeps = λ n nb h D x. at_carried t A B ws us n nb (sorted t.level g D) (λ E r. w.keeps (suc n) t.rows (here (suc n) E r) E r.carries) x;
   same_plan = ap (on_top t.level) w.same_plan;
   charged = charged_with a c t.rows (t.rows + k) (t.rows + m) k m refl refl w.charged;
 }
 
-pub carried_went : (t : Table) (g : Seg) (A B : ℕ → ℕ → Deliveries → Type 0) (ws us : Deliveries) (inside : ℕ → Type 0) (p q : Plan) (a c : AggregationLimits) (k m : ℕ)
-    → Went (λ n b. Carries (A n b) ws) (λ n b. Carries (B n b) us) (Inside ws) (λ E. E) p q a c k m
+pub carried_went : {t : Table} (g : Seg) {A B : ℕ → ℕ → Deliveries → Type 0} {ws us : Deliveries} {inside : ℕ → Type 0} {p q : Plan} {a c : AggregationLimits} {k m : ℕ} → Went (λ n b. Carries (A n b) ws) (λ n b. Carries (B n b) us) (Inside ws) (λ E. E) p q a c k m
     → Went (λ n nb D. At t A ws n nb (sorted t.level g D)) (λ n nb D. At t B us n nb (sorted t.level g D)) inside (λ D. D) (on_top t.level p) (on_top t.level q) a c (t.rows + k) (t.rows + m)
-carried_went t g A B ws us inside p q a c k m w = carried_by t g A B ws us (Inside ws) inside p q a c k m (λ n E r. rows_inside t.count t.rows (A n t.rows) ws E r) w
+carried_went {t} g {A} {B} {ws} {us} {inside} {p} {q} {a} {c} {k} {m} w = carried_by g (λ n E r. rows_inside t.count t.rows (A n t.rows) ws E r) w
 
 -- the level's rows as rows of the deliveries
 module _ (t : Table) (sound : Sound t) (g : Seg) (n nb : ℕ) (carried : Deliveries → Type 0) (D : Deliveries) (x : Filed t nb carried (sorted t.level g D)) where
@@ -82,11 +80,10 @@ module _ (t : Table) (sound : Sound t) (g : Seg) (n nb : ℕ) (carried : Deliver
   pub first-held : (k : ℕ) → k < t.rows → (rest : List ℕ) × (row_docs t.level g (t.step k) (D (t.bucket k)) ≡ x.docs_of k ++ rest)
   first-held k h = ([], sym (x.docs k h) ∙ sym (append-nil (x.docs_of k)))
 
-pub overran_by : (t : Table) (sound : Sound t) (slots : ℕ) (g : Seg) (A : ℕ → ℕ → Deliveries → Type 0) (ws : Deliveries) (ins inside : ℕ → Type 0) (p : Plan) (a c : AggregationLimits) (k m : ℕ) (f : Fault)
-    → ((n : ℕ) (E : Deliveries) → Rows t.count t.rows (Carries (A n t.rows) ws) E → ins t.rows)
+pub overran_by : {t : Table} (sound : Sound t) {slots : ℕ} {g : Seg} {A : ℕ → ℕ → Deliveries → Type 0} {ws : Deliveries} {ins inside : ℕ → Type 0} {p : Plan} {a c : AggregationLimits} {k m : ℕ} {f : Fault} → ((n : ℕ) (E : Deliveries) → Rows t.count t.rows (Carries (A n t.rows) ws) E → ins t.rows)
     → Overran 1 p slots g (λ n b. Carries (A n b) ws) ins (λ E. E) a c k m f
     → Overran 1 (on_top t.level p) slots g (λ n nb D. At t A ws n nb (sorted t.level g D)) inside (λ D. D) a c (t.rows + k) (t.rows + m) f
-overran_by t sound slots g A ws ins inside p a c k m f here o = record {
+overran_by {t} sound {slots} {g} {A} {ws} {ins} {inside} {p} {a} {c} {k} {m} {f} here o = record {
   stopped = stopped_with a c t.rows (t.rows + k) (t.rows + m) k m f refl refl o.stopped;
   overrun = λ n nb others D h x used.
       let y = x.filed in
@@ -95,15 +92,14 @@ overran_by t sound slots g A ws ins inside p a c k m f here o = record {
       (o.overrun (suc n) t.rows (others + t.rows) y.docs_of (here (suc n) y.docs_of y.of_rows) y.of_rows.carries (omega (arith, used)));
 }
 
-pub carried_overran : (t : Table) (sound : Sound t) (slots : ℕ) (g : Seg) (A : ℕ → ℕ → Deliveries → Type 0) (ws : Deliveries) (inside : ℕ → Type 0) (p : Plan) (a c : AggregationLimits) (k m : ℕ) (f : Fault)
-    → Overran 1 p slots g (λ n b. Carries (A n b) ws) (Inside ws) (λ E. E) a c k m f
+pub carried_overran : {t : Table} (sound : Sound t) {slots : ℕ} {g : Seg} {A : ℕ → ℕ → Deliveries → Type 0} {ws : Deliveries} {inside : ℕ → Type 0} {p : Plan} {a c : AggregationLimits} {k m : ℕ} {f : Fault} → Overran 1 p slots g (λ n b. Carries (A n b) ws) (Inside ws) (λ E. E) a c k m f
     → Overran 1 (on_top t.level p) slots g (λ n nb D. At t A ws n nb (sorted t.level g D)) inside (λ D. D) a c (t.rows + k) (t.rows + m) f
-carried_overran t sound slots g A ws inside p a c k m f o = overran_by t sound slots g A ws (Inside ws) inside p a c k m f (λ n E r. rows_inside t.count t.rows (A n t.rows) ws E r) o
+carried_overran {t} sound {slots} {g} {A} {ws} {inside} {p} {a} {c} {k} {m} {f} o = overran_by sound (λ n E r. rows_inside t.count t.rows (A n t.rows) ws E r) o
 
 -- ---- rows that always stand
-pub prepared_went : (t u : Table) (sound : Sound u) (g : Seg) (A : ℕ → ℕ → Deliveries → Type 0) (ws : Deliveries) (buckets : ℕ) (p : Plan) (a c : AggregationLimits) (m : ℕ) → ((n R S : ℕ) (D : Deliveries) → R ≤ S → A n R D → A n S D) → Prepared t u a c buckets
+pub prepared_went : {t u : Table} (sound : Sound u) (g : Seg) {A : ℕ → ℕ → Deliveries → Type 0} {ws : Deliveries} {buckets : ℕ} {p : Plan} {a c : AggregationLimits} (m : ℕ) → ((n R S : ℕ) (D : Deliveries) → R ≤ S → A n R D → A n S D) → Prepared t u a c buckets
     → Went (λ n nb D. At t A ws n nb (sorted t.level g D)) (λ n nb D. At u A ws n nb (sorted u.level g D)) (λ nb. buckets ≤ nb) (λ D. D) (on_top t.level p) (on_top u.level p) a c (t.rows + m) (u.rows + m)
-prepared_went t u sound g A ws buckets p a c m wider pr = record {
+prepared_went {t} {u} sound g {A} {ws} {buckets} {p} {a} {c} m wider pr = record {
   keeps = λ n nb h D x. record {
     number = pr.grew.same_number ∙ x.number;
     filed = subst (λ (l : Lvl). Filed u nb (Carries (A (suc n) u.rows) ws) (sorted l g D)) (sym pr.grew.same_level)
@@ -115,26 +111,25 @@ prepared_went t u sound g A ws buckets p a c m wider pr = record {
   charged = charged_with a c m (t.rows + m) (u.rows + m) t.rows u.rows (omega arith) (omega arith) pr.charged;
 }
 
-pub unprepared_overran : (t u : Table) (sound : Sound u) (slots : ℕ) (g : Seg) (A : ℕ → ℕ → Deliveries → Type 0) (ws : Deliveries) (buckets : ℕ) (p : Plan) (a c : AggregationLimits) (m : ℕ) (f : Fault) → ((n R : ℕ) (D : Deliveries) → A n R D → Crowd p.levels g R D (λ k. 1 ≤ k) m) → Unprepared t u a c buckets f
+pub unprepared_overran : {t u : Table} (sound : Sound u) {slots : ℕ} {g : Seg} {A : ℕ → ℕ → Deliveries → Type 0} {ws : Deliveries} {buckets : ℕ} {p : Plan} {a c : AggregationLimits} {m : ℕ} {f : Fault} → ((n R : ℕ) (D : Deliveries) → A n R D → Crowd p.levels g R D (λ k. 1 ≤ k) m) → Unprepared t u a c buckets f
     → Overran 1 (on_top t.level p) slots g (λ n nb D. At t A ws n nb (sorted t.level g D)) (λ nb. buckets ≤ nb) (λ D. D) a c (t.rows + m) (u.rows + m) f
-unprepared_overran t u sound slots g A ws buckets p a c m f made-below un = record {
+unprepared_overran {t} {u} sound {slots} {g} {A} {ws} {buckets} {p} {a} {c} {m} {f} made-below un = record {
   stopped = stopped_with a c m (t.rows + m) (u.rows + m) t.rows u.rows f (omega arith) (omega arith) un.lacks.stopped;
   overrun = λ n nb others D h x used. prepare_overrun t u sound a c buckets f A ws p slots g m made-below un n nb others (sorted t.level g D) D h x used
       (subst (λ (l : Lvl). Within (sorted t.level g D) (sorted l g D)) (sym un.lacks.grew.same_level) (within_refl (sorted t.level g D)));
 }
 
 -- rows made below, with nothing delivered: what is carried stays
-pub below_went : (A B : ℕ → ℕ → Deliveries → Type 0) (ws us : Deliveries) (R : ℕ) (p q : Plan) (a c : AggregationLimits) (k m : ℕ) → us ≡ ws
+pub below_went : {A B : ℕ → ℕ → Deliveries → Type 0} {ws us : Deliveries} {R : ℕ} {p q : Plan} {a c : AggregationLimits} {k m : ℕ} → us ≡ ws
     → Went A B (λ b. R ≤ b) (λ D. D) p q a c k m → Went (λ n b. Carries (A n b) ws) (λ n b. Carries (B n b) us) (λ b. R ≤ b) (λ E. E) p q a c k m
-below_went A B ws us R p q a c k m e w = record {
+below_went {A} {B} {ws} {us} {R} {p} {q} {a} {c} {k} {m} e w = record {
   keeps = λ n b h E x. record { under = x.under; stores = w.keeps n b h x.under x.stores; whole = ap (all_added x.under) e ∙ x.whole };
   same_plan = w.same_plan;
   charged = w.charged;
 }
 
-pub below_overran : (slots : ℕ) (g : Seg) (A : ℕ → ℕ → Deliveries → Type 0) (ws : Deliveries) (R : ℕ) (p : Plan) (a c : AggregationLimits) (k m : ℕ) (f : Fault)
-    → Overran 1 p slots g A (λ b. R ≤ b) (λ D. D) a c k m f → Overran 1 p slots g (λ n b. Carries (A n b) ws) (λ b. R ≤ b) (λ E. E) a c k m f
-below_overran slots g A ws R p a c k m f o = record {
+pub below_overran : {slots : ℕ} {g : Seg} {A : ℕ → ℕ → Deliveries → Type 0} {ws : Deliveries} {R : ℕ} {p : Plan} {a c : AggregationLimits} {k m : ℕ} {f : Fault} → Overran 1 p slots g A (λ b. R ≤ b) (λ D. D) a c k m f → Overran 1 p slots g (λ n b. Carries (A n b) ws) (λ b. R ≤ b) (λ E. E) a c k m f
+below_overran {slots} {g} {A} {ws} {R} {p} {a} {c} {k} {m} {f} o = record {
   stopped = o.stopped;
   overrun = λ n b others E h x used.
       subst (λ (D : Deliveries). Overrun 1 p.levels slots n g b D others a.limit f) x.whole
@@ -226,6 +221,4 @@ pub held_complete : (t : Table) (sound : Sound t) (ls : List Lvl) (slots : ℕ) 
     → ((E : Deliveries) → A (suc n) t.rows E → Complete ls slots g t.rows E m) → At t A ws n nb (sorted t.level g D) → Complete (t.level ∷ ls) slots g nb D (t.rows + m)
 held_complete t sound ls slots g n nb A ws D m none standing below x =
     let y = x.filed in
-    let same : y.of_rows.carries.under ≡ y.docs_of = sym (all_added_none y.of_rows.carries.under ws none) ∙ y.of_rows.carries.whole in
-    complete-up t.level ls g nb t.rows y.docs_of D (held_numbers t sound g nb (Carries (A (suc n) t.rows) ws) D y standing) slots m sound.few
-    (subst (λ (E : Deliveries). Complete ls slots g t.rows E m) same (below y.of_rows.carries.under y.of_rows.carries.stores))
+    complete-up t.level ls g nb t.rows y.docs_of D (held_numbers t sound g nb (Carries (A (suc n) t.rows) ws) D y standing) slots m sound.few (below y.docs_of (carry_none none y.of_rows.carries))

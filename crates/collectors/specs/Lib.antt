@@ -7,3 +7,4 @@ pub mod Sending
 pub mod Lacking
 pub mod Spreading
 pub mod Carrying
+pub mod Calls

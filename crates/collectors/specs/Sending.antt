@@ -26,18 +26,18 @@ within_level G l m g D e w = subst (λ (z : Lvl). Within G (sorted z g D)) (sym 
 not_allowance : (f : Fault) (n : ℕ) → f ≡ fault CountOverflow n → f.refusal ≢ AllowanceExceeded
 not_allowance f n e h = let q : CountOverflow ≡ AllowanceExceeded = sym (ap (λ (z : Fault). z.refusal) e) ∙ h in let z : ◌≡◌ {A = ℕ} 0 1 = cc in omega arith
 
-module _ (t u : Table) (sound : Sound u) (lim lim1 : AggregationLimits) (b v r : ℕ) (rf : RowFor t u lim lim1 b v r)
-    (A : ℕ → ℕ → Deliveries → Type 0) (ws : Deliveries) (wider : (n R S : ℕ) (D : Deliveries) → R ≤ S → A n R D → A n S D) (p : Plan) (m0 : ℕ) where
+module _ {t u : Table} (sound : Sound u) {lim lim1 : AggregationLimits} {b v r : ℕ} (rf : RowFor t u lim lim1 b v r)
+    {A : ℕ → ℕ → Deliveries → Type 0} {ws : Deliveries} (wider : (n R S : ℕ) (D : Deliveries) → R ≤ S → A n R D → A n S D) where
   wide : (n : ℕ) (E : Deliveries) → Carries (A n t.rows) ws E → Carries (A n u.rows) ws E
   wide n E c = record { under = c.under; stores = wider n t.rows u.rows c.under rf.grew.more c.stores; whole = c.whole }
 
   grown-rows : (n nb : ℕ) (F : Sorted) (x : Filed t nb (Carries (A (suc n) t.rows) ws) F) → Rows u.count u.rows (Carries (A (suc n) u.rows) ws) x.docs_of
   grown-rows n nb F x = rows_grown t u sound rf.grew nb (Carries (A (suc n) t.rows) ws) F x (Carries (A (suc n) u.rows) ws) (wide (suc n))
 
-  pub place-sent : (w : Table) (lim2 : AggregationLimits) (B : ℕ → ℕ → Deliveries → Type 0) (us : Deliveries) (q : Plan) (m1 d : ℕ) → Counted u w r
+  pub place-sent : {w : Table} {lim2 : AggregationLimits} {B : ℕ → ℕ → Deliveries → Type 0} {us : Deliveries} {p q : Plan} {m0 m1 : ℕ} (d : ℕ) → Counted u w r
       → Went (λ n c. Rows u.count c (Carries (A n c) ws)) (λ n c. Rows w.count c (Carries (B n c) us)) (λ c. c ≡ u.rows) (λ E. added E r (d ∷ [])) p q lim1 lim2 m0 m1
       → (w.level ≡ t.level) × Sent (At t A ws) (At w B us) (λ c. b < c) (λ F. placed_at F b (step_of t.level v) d) p q lim lim2 (t.rows + m0) (w.rows + m1)
-  place-sent w lim2 B us q m1 d cu wn = (
+  place-sent {w} {lim2} {B} {us} {p} {q} {m0} {m1} d cu wn = (
     cu.same_level ∙ rf.grew.same_level,
     record {
       keeps = λ n nb h F at. record {
@@ -55,10 +55,10 @@ module _ (t u : Table) (sound : Sound u) (lim lim1 : AggregationLimits) (b v r :
     },
   )
 
-  pub put-missed : (w : Table) (lim2 : AggregationLimits) (slots : ℕ) (g : Seg) (m1 d : ℕ) (f : Fault)
+  pub put-missed : {w : Table} {lim2 : AggregationLimits} {p : Plan} {slots : ℕ} {g : Seg} {m0 m1 d : ℕ} {f : Fault}
       → PutRefused u w p slots g (λ n c. Rows u.count c (Carries (A n c) ws)) r d lim1 lim2 m0 m1 f
       → Missed p t.level slots g (At t A ws) (λ c. b < c) (λ F. placed_at F b (step_of t.level v) d) lim lim2 (t.rows + m0) (w.rows + m1) f
-  put-missed w lim2 slots g m1 d f (full_here e top same lims ms) = record {
+  put-missed {w} {lim2} {p} {slots} {g} {m0} {m1} {d} {f} (full_here e top same lims ms) = record {
     stopped = record {
       same_limit = ap (λ (z : AggregationLimits). z.limit) lims ∙ rf.charged.same_limit;
       grown = omega (arith, rf.charged.grown, same, ms);
@@ -73,7 +73,7 @@ module _ (t u : Table) (sound : Sound u) (lim lim1 : AggregationLimits) (b v r :
         full_row t.level p.levels slots n g nb D others lim.limit f b (u.step r) (e ∙ ap (fault CountOverflow) (rf.grew.same_number ∙ at.number)) h
         (omega (arith, ap length m.1, length-append (placed F b (u.step r) d b (u.step r)) m.0, ap length here, length-append (F b (u.step r)) (d ∷ []), size));
   }
-  put-missed w lim2 slots g m1 d f (refused_below same o) = record {
+  put-missed {w} {lim2} {p} {slots} {g} {m0} {m1} {d} {f} (refused_below same o) = record {
     stopped = stopped_after lim lim1 lim2 (t.rows + m0) (u.rows + m0) (w.rows + m1) f
         (charged_with lim lim1 m0 (t.rows + m0) (u.rows + m0) t.rows u.rows (omega arith) (omega arith) rf.charged)
         (stopped_with lim1 lim2 u.rows (u.rows + m0) (w.rows + m1) m0 m1 f (omega arith) (omega (arith, same)) o.stopped);
@@ -110,8 +110,8 @@ prepare_overrun t u sound lim lim1 buckets f A ws p slots g m0 made-below x n nb
     slots others m0 lim lim1 f at.number (made-below (suc n) t.rows at.filed.of_rows.carries.under at.filed.of_rows.carries.stores) used x.lacks.reason)
 
 -- a value whose row cannot be made
-module _ (t u : Table) (sound : Sound u) (lim lim1 : AggregationLimits) (b v d : ℕ) (f : Fault)
-    (A : ℕ → ℕ → Deliveries → Type 0) (ws : Deliveries) (p : Plan) (slots : ℕ) (g : Seg) (m0 : ℕ)
+module _ {t u : Table} (sound : Sound u) {lim lim1 : AggregationLimits} {b v : ℕ} (d : ℕ) {f : Fault}
+    {A : ℕ → ℕ → Deliveries → Type 0} {ws : Deliveries} {p : Plan} {slots : ℕ} {g : Seg} {m0 : ℕ}
     (made-below : (n R : ℕ) (D : Deliveries) → A n R D → Crowd p.levels g R D (λ k. 1 ≤ k) m0) where
   pub row-missed : NoRowFor t u lim lim1 b v f → Missed p t.level slots g (At t A ws) (λ c. b < c) (λ F. placed_at F b (step_of t.level v) d) lim lim1 (t.rows + m0) (u.rows + m0) f
   row-missed (unmade x) = record {

@@ -8,36 +8,35 @@ use Rattle.std.proofs.lemmas.Bool.{cases_eq, cond-true, cond-false, eq-eqb, ne_e
 use Rattle.records.specs.declared.fault.Fault.{Fault}
 use Rattle.limits.specs.declared.agg_limits.AggregationLimits.{AggregationLimits}
 use Rattle.segments.specs.Segments.{Seg}
-use Rattle.segments.proofs.Values.{more, no_more}
+use Rattle.segments.proofs.Values.{more}
 use Rattle.stack.specs.Levels.{Lvl, Plan, step_of, with_step, steps_of_values, steps, same_step, occurrences, row_docs}
 use Rattle.stack.specs.Overruns.{Deliveries, added, Overrun}
 use Rattle.stack.proofs.Chaining.{charged_none, charged_trans, stopped_after, others_same}
 use Rattle.stack.proofs.Readings.{rows_append}
-use Rattle.collectors.specs.Filing.{step_at, Sorted, sorted, placed, placed_at, placed_all, Within, Sent, Missed}
+use Rattle.collectors.specs.Filing.{Sorted, sorted, placed, placed_at, placed_all, Within, Sent, Missed}
 use Rattle.collectors.specs.Placing.{within_refl, within_trans, within-placed}
 
 -- ---- one call after another
-pub sent_none : (X : (n buckets : ℕ) → Sorted → Type 0) (inside : ℕ → Type 0) (grows : Sorted → Sorted) (p : Plan) (a : AggregationLimits) (m : ℕ) → ((F : Sorted) → grows F ≡ F) → Sent X X inside grows p p a a m m
-sent_none X inside grows p a m e = record { keeps = λ n b h F x. subst (X n b) (sym (e F)) x; same_plan = refl; charged = charged_none a m m refl }
+pub sent_none : {X : (n buckets : ℕ) → Sorted → Type 0} {inside : ℕ → Type 0} {grows : Sorted → Sorted} {p : Plan} {a : AggregationLimits} {m : ℕ} → ((F : Sorted) → grows F ≡ F) → Sent X X inside grows p p a a m m
+sent_none {X} {inside} {grows} {p} {a} {m} e = record { keeps = λ n b h F x. subst (X n b) (sym (e F)) x; same_plan = refl; charged = charged_none a m m refl }
 
-pub sent_then : (X Y Z : (n buckets : ℕ) → Sorted → Type 0) (inside : ℕ → Type 0) (gr1 gr2 grows : Sorted → Sorted) (p q r : Plan) (a b c : AggregationLimits) (k m n : ℕ)
-    → ((F : Sorted) → gr2 (gr1 F) ≡ grows F) → Sent X Y inside gr1 p q a b k m → Sent Y Z inside gr2 q r b c m n → Sent X Z inside grows p r a c k n
-sent_then X Y Z inside gr1 gr2 grows p q r a b c k m n e x y = record {
+pub sent_then : {X Y Z : (n buckets : ℕ) → Sorted → Type 0} {inside : ℕ → Type 0} {gr1 gr2 grows : Sorted → Sorted} {p q r : Plan} {a b c : AggregationLimits} {k m n : ℕ} → Sent X Y inside gr1 p q a b k m → Sent Y Z inside gr2 q r b c m n → ((F : Sorted) → gr2 (gr1 F) ≡ grows F) → Sent X Z inside grows p r a c k n
+sent_then {X} {Y} {Z} {inside} {gr1} {gr2} {grows} {p} {q} {r} {a} {b} {c} {k} {m} {n} x y e = record {
   keeps = λ l buckets h F s. subst (Z l buckets) (e F) (y.keeps l buckets h (gr1 F) (x.keeps l buckets h F s));
   same_plan = y.same_plan ∙ x.same_plan;
   charged = charged_trans a b c k m n x.charged y.charged;
 }
 
-pub sent_missed : (lv lw : Lvl) (slots : ℕ) (g : Seg) (X Y : (n buckets : ℕ) → Sorted → Type 0) (inside : ℕ → Type 0) (gr1 gr2 grows : Sorted → Sorted) (p q : Plan) (a b c : AggregationLimits) (k m n : ℕ) (f : Fault)
-    → lw ≡ lv → ((F : Sorted) → Within (gr2 (gr1 F)) (grows F)) → Sent X Y inside gr1 p q a b k m → Missed q lw slots g Y inside gr2 b c m n f → Missed p lv slots g X inside grows a c k n f
-sent_missed lv lw slots g X Y inside gr1 gr2 grows p q a b c k m n f same more x y = record {
+pub sent_missed : {lv lw : Lvl} {slots slots' : ℕ} {g : Seg} {X Y : (n buckets : ℕ) → Sorted → Type 0} {inside : ℕ → Type 0} {gr1 gr2 grows : Sorted → Sorted} {p q : Plan} {a b c : AggregationLimits} {k m n : ℕ} {f : Fault} → slots' ≡ slots → lw ≡ lv → Sent X Y inside gr1 p q a b k m → Missed q lw slots' g Y inside gr2 b c m n f → ((F : Sorted) → Within (gr2 (gr1 F)) (grows F)) → Missed p lv slots g X inside grows a c k n f
+sent_missed {lv} {lw} {slots} {slots'} {g} {X} {Y} {inside} {gr1} {gr2} {grows} {p} {q} {a} {b} {c} {k} {m} {n} {f} size same x y more = record {
   stopped = stopped_after a b c k m n f x.charged y.stopped;
   overrun = λ l buckets others F D h s used all.
       let o = y.overrun l buckets others (gr1 F) D h (x.keeps l buckets h F s) (others_same a b k m others x.charged used)
       (subst (λ (z : Lvl). Within (gr2 (gr1 F)) (sorted z g D)) (sym same) (within_trans (gr2 (gr1 F)) (grows F) (sorted lv g D) (more F) all)) in
-      subst (λ (z : Lvl). Overrun 1 (z ∷ p.levels) slots l g buckets D others a.limit f) same
-      (subst (λ (z : Plan). Overrun 1 (lw ∷ z.levels) slots l g buckets D others a.limit f) x.same_plan
-      (subst (λ (z : ℕ). Overrun 1 (lw ∷ q.levels) slots l g buckets D others z f) x.charged.same_limit o));
+      subst (λ (z : ℕ). Overrun 1 (lv ∷ p.levels) z l g buckets D others a.limit f) size
+      (subst (λ (z : Lvl). Overrun 1 (z ∷ p.levels) slots' l g buckets D others a.limit f) same
+      (subst (λ (z : Plan). Overrun 1 (lw ∷ z.levels) slots' l g buckets D others a.limit f) x.same_plan
+      (subst (λ (z : ℕ). Overrun 1 (lw ∷ q.levels) slots' l g buckets D others z f) x.charged.same_limit o)));
 }
 
 -- ---- the steps of a document's values
@@ -65,13 +64,11 @@ value_more F b d step vs v =
     ∙ ap (placed_all F b d) (sym (values-append step vs (v ∷ [])))
 
 -- the value at an index
-pub nth_more : (F : Sorted) (b d : ℕ) (l m : Lvl) (vs : List ℕ) (i : ℕ) → m ≡ l → placed_at (placed_all F b d (steps_of_values (step_of l) (take i vs))) b (step_at (step_of m) (slice_get vs i)) d ≡ placed_all F b d (steps_of_values (step_of l) (take (i + 1) vs))
-nth_more F b d l m vs i e =
-    ap (λ (z : Lvl). placed_at (placed_all F b d (steps_of_values (step_of l) (take i vs))) b (step_at (step_of z) (slice_get vs i)) d) e ∙ go (slice_get vs i) refl
-  where
-    go : (o : Option ℕ) → slice_get vs i ≡ o → placed_at (placed_all F b d (steps_of_values (step_of l) (take i vs))) b (step_at (step_of l) o) d ≡ placed_all F b d (steps_of_values (step_of l) (take (i + 1) vs))
-    go (Some v) q = value_more F b d (step_of l) (take i vs) v ∙ ap (λ (xs : List ℕ). placed_all F b d (steps_of_values (step_of l) xs)) (sym (more vs i v q))
-    go None q = ap (λ (xs : List ℕ). placed_all F b d (steps_of_values (step_of l) xs)) (sym (no_more vs i q))
+pub value_next : (F : Sorted) (b d : ℕ) (l m : Lvl) (vs : List ℕ) (i v : ℕ) → m ≡ l → slice_get vs i ≡ Some v → placed_at (placed_all F b d (steps_of_values (step_of l) (take i vs))) b (step_of m v) d ≡ placed_all F b d (steps_of_values (step_of l) (take (i + 1) vs))
+value_next F b d l m vs i v e q =
+    ap (λ (z : Lvl). placed_at (placed_all F b d (steps_of_values (step_of l) (take i vs))) b (step_of z v) d) e
+    ∙ value_more F b d (step_of l) (take i vs) v
+    ∙ ap (λ (xs : List ℕ). placed_all F b d (steps_of_values (step_of l) xs)) (sym (more vs i v q))
 
 pub within_all : (F : Sorted) (b d : ℕ) (ss : List ℤ) → Within F (placed_all F b d ss)
 within_all F b d [] = within_refl F

@@ -1,8 +1,8 @@
 //! Sending a document on to the level below.
-ghost use Rattle.std.specs.Prelude.{◌<◌, [], ◌∷◌, length, MatchResult};
+ghost use Rattle.std.specs.Prelude.{◌<◌, [], ◌∷◌};
 ghost use Rattle.stack.specs.Overruns.{added};
-ghost use Rattle.stack.specs.Calls.{Went, Overran, Inside};
-ghost use Rattle.collectors.specs.Filing.{Carries};
+ghost use Rattle.stack.specs.Calls.{Handled, Inside};
+ghost use Rattle.collectors.specs.Calls.{carried_in};
 
 use limits::agg_limits::AggregationLimits;
 use records::fault::Fault;
@@ -19,9 +19,9 @@ pub(crate) fn deliver<C: SubAggCache, S: Segment>(
     doc: u32,
 ) -> Result<(), Fault>
     requires { row < 512 }
-    ensures { MatchResult result
-        (λ _. Went (λ n b. Carries (C.SubAggCache.stored below.old slots.old (S.Segment.means seg.now) n b) (C.SubAggCache.waiting below.old)) (λ n b. Carries (C.SubAggCache.stored below.new slots.new (S.Segment.means seg.now) n b) (C.SubAggCache.waiting below.new)) (Inside (C.SubAggCache.waiting below.old)) (λ E. added E row (doc ∷ [])) (C.SubAggCache.plan below.old) (C.SubAggCache.plan below.new) limits.old limits.new (C.SubAggCache.made below.old) (C.SubAggCache.made below.new))
-        (λ f. Overran 1 (C.SubAggCache.plan below.old) (length slots.old) (S.Segment.means seg.now) (λ n b. Carries (C.SubAggCache.stored below.old slots.old (S.Segment.means seg.now) n b) (C.SubAggCache.waiting below.old)) (Inside (C.SubAggCache.waiting below.old)) (λ E. added E row (doc ∷ [])) limits.old limits.new (C.SubAggCache.made below.old) (C.SubAggCache.made below.new) f) }
+    ensures { Handled result (carried_in C.stored C.waiting) C.plan C.made (S.means seg.now)
+        (below.old, slots.old, limits.old) (below.new, slots.new, limits.new)
+        (Inside (C.waiting below.old)) (λ E. added E row (doc ∷ [])) }
 {
     if below.push(row, doc) {
         return Ok(());
@@ -38,9 +38,9 @@ pub(crate) fn ease<C: SubAggCache, S: Segment>(
     limits: &mut AggregationLimits,
     slots: &mut [C::Fruit],
 ) -> Result<(), Fault>
-    ensures { MatchResult result
-        (λ _. Went (λ n b. Carries (C.SubAggCache.stored below.old slots.old (S.Segment.means seg.now) n b) (C.SubAggCache.waiting below.old)) (λ n b. Carries (C.SubAggCache.stored below.new slots.new (S.Segment.means seg.now) n b) (C.SubAggCache.waiting below.new)) (Inside (C.SubAggCache.waiting below.old)) (λ E. E) (C.SubAggCache.plan below.old) (C.SubAggCache.plan below.new) limits.old limits.new (C.SubAggCache.made below.old) (C.SubAggCache.made below.new))
-        (λ f. Overran 1 (C.SubAggCache.plan below.old) (length slots.old) (S.Segment.means seg.now) (λ n b. Carries (C.SubAggCache.stored below.old slots.old (S.Segment.means seg.now) n b) (C.SubAggCache.waiting below.old)) (Inside (C.SubAggCache.waiting below.old)) (λ E. E) limits.old limits.new (C.SubAggCache.made below.old) (C.SubAggCache.made below.new) f) }
+    ensures { Handled result (carried_in C.stored C.waiting) C.plan C.made (S.means seg.now)
+        (below.old, slots.old, limits.old) (below.new, slots.new, limits.new)
+        (Inside (C.waiting below.old)) (λ E. E) }
 {
     if below.is_full() {
         below.hand_over(seg, limits, slots)?;

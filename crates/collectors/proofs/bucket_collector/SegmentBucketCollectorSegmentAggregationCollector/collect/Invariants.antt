@@ -1,18 +1,14 @@
 -- The documents before the one at hand are collected.
-use Rattle.std.proofs.Common.{◌+◌, ◌<◌, take}
+use Rattle.std.proofs.Common.{◌<◌, take}
 use Rattle.stack.specs.Overruns.{added}
-use Rattle.stack.specs.Calls.{Went}
-use Rattle.collectors.specs.Filing.{At, sorted, on_top}
+use Rattle.stack.specs.Calls.{Accepted}
+use Rattle.collectors.specs.Calls.{held_in, plan_in, made_in}
 use Rattle.collectors.proofs.bucket_collector.SegmentBucketCollectorSegmentAggregationCollector.collect.Given as goal
 
 abbrev pub invariant-loop-doc : goal.invariant-loop-doc
 invariant-loop-doc g l =
-    let rows = g.K.RowTable in
+    let table = g.K.RowTable.table in
     let cache = g.C.SubAggCache in
-    let seg = g.S.Segment.means l.seg in
-    let t = rows.table l.initial.self.inner in
-    let u = rows.table l.self.inner in
-    Went (λ n nb D. At t (cache.stored l.initial.self.below l.initial.slots seg) (cache.waiting l.initial.self.below) n nb (sorted t.level seg D))
-    (λ n nb D. At u (cache.stored l.self.below l.slots seg) (cache.waiting l.self.below) n nb (sorted u.level seg D))
+    Accepted (held_in table cache.stored cache.waiting) (plan_in table cache.plan) (made_in table cache.made) (g.S.Segment.means l.seg)
+    (l.initial.self, l.initial.slots, l.initial.limits) (l.self, l.slots, l.limits)
     (λ b. l.bucket < b) (λ D. added D l.bucket (take l.doc-index l.docs))
-    (on_top t.level (cache.plan l.initial.self.below)) (on_top u.level (cache.plan l.self.below)) l.initial.limits l.limits (t.rows + cache.made l.initial.self.below) (u.rows + cache.made l.self.below)

@@ -20,7 +20,7 @@ returns g c =
       plans = λ e. let both = none_of _ _ e in ap₂ on_top (c.reset.ensures.plans both.0) (c.reset-2.ensures.plans (subst (λ (k : ℕ). cache.refused c.args.request.now.below c.args.ranges.now (g.S.Segment.means c.args.seg.now).column_type k ≡ None) (sym next) both.1));
       empties = (
         (λ few seg nb. held_none t (g.met.K.RowTable.sound c.reset.new.self) seg c.args.level nb (cache.stored is slots seg) (cache.waiting is) empties.0 empties.1
-            (waits_none (cache.waiting is) (cache.pending is) (g.met.C.SubAggCache.waits is) below.2) (subst (λ (k : ℕ). cache.stored is slots seg k t.rows none_yet) (omega (arith, next, few)) (below.0 (omega (arith, next, few)) seg t.rows))),
+            (waits_none (g.met.C.SubAggCache.waits is) below.2) (subst (λ (k : ℕ). cache.stored is slots seg k t.rows none_yet) (omega (arith, next, few)) (below.0 (omega (arith, next, few)) seg t.rows))),
         omega (arith, empties.0, below.1),
       );
     }

@@ -1,40 +1,26 @@
 -- Each turn writes one row with the rows below it; at the end all that are listed are written.
-use Rattle.std.proofs.Common.{◌≡◌, ℕ, suc, ◌<◌, List, [], ◌∷◌, ◌++◌, map, get_or, take, None, sym, refl, ap, ◌∙◌, subst, arith, length-append}
-use Rattle.std.proofs.lemmas.List.{take_all}
-use Rattle.records.specs.Rows.{Entry}
+use Rattle.std.proofs.Common.{ℕ, suc, List, [], ◌∷◌, ◌++◌, take, None, sym, refl, subst, arith, length-append}
 use Rattle.segments.specs.Segments.{Seg}
 use Rattle.segments.proofs.Values.{more}
-use Rattle.stack.specs.Levels.{row_docs, Step}
-use Rattle.stack.specs.Writing.{above_steps, Feeding, row_worth}
-use Rattle.stack.proofs.Delivering.{all_added_none}
-use Rattle.collectors.specs.Filing.{Carries}
-use Rattle.collectors.specs.Carrying.{waits_none}
-use Rattle.collectors.specs.Holding.{steps-held, has_step}
-use Rattle.collectors.proofs.Writing.{BlocksOf, blocks_more, put_none, put_then, put_size, read_some, read_none, listed_few, blocks-written, steps_listed}
+use Rattle.stack.specs.Writing.{above_steps, Feeding}
+use Rattle.collectors.specs.Carrying.{waits_none, carry_none}
+use Rattle.collectors.proofs.Writing.{BlocksOf, entry_at, blocks_more, put_none, put_then, put_size, read_none, listed_row, listed_few, all_put}
 use Rattle.collectors.proofs.bucket_collector.SegmentBucketCollectorSegmentAggregationCollector.write_rows.Goals as goal
 
 -- some segment, where any will do
 empty : Seg
 empty = record { docs = 0; column_type = λ _. None; held = λ _ _. [] }
 
-pub overflow_add-index : goal.overflow_add-index
-overflow_add-index g c =
-    let listed = g.K.RowTable.listed c.args.self.now.inner c.args.bucket in
-    let here = read_some listed c.loop-row.index c.in-Some.row (sym c.in-Some.ensures) in
-    let few = listed_few (g.K.RowTable.table c.args.self.now.inner) c.args.bucket listed empty (g.met.K.RowTable.sound c.args.self.now.inner) (g.met.K.RowTable.lists c.args.self.now.inner c.args.bucket) in
-    omega (arith, here.0, few)
+pub write_row-end-requires : goal.write_row-end-requires
+write_row-end-requires g c =
+    let inner = c.args.self.now.inner in
+    listed_row (g.K.RowTable.table inner) c.args.bucket (g.K.RowTable.listed inner c.args.bucket) c.loop-index.index c.in-Some.row (g.met.K.RowTable.lists inner c.args.bucket) (sym c.in-Some.ensures)
 
-pub loop-row-smaller : goal.loop-row-smaller
-loop-row-smaller g c =
-    let listed = g.K.RowTable.listed c.args.self.now.inner c.args.bucket in
-    let here = read_some listed c.loop-row.index c.in-Some.row (sym c.in-Some.ensures) in
-    omega (arith, here.0)
+pub loop-index-init : goal.loop-index-init
+loop-index-init g c = λ seg n E rests prepared stored depth. ([], (refl, λ room. put_none g.C.Fruit.Tally.worth c.args.out.now c.args.at))
 
-pub loop-row-init : goal.loop-row-init
-loop-row-init g c = λ seg n E rests prepared stored depth. ([], (refl, λ room. put_none g.C.Fruit.Tally.worth c.args.out.now c.args.at))
-
-pub loop-row-preserved : goal.loop-row-preserved
-loop-row-preserved g c = λ seg n E rests prepared stored depth.
+pub loop-index-preserved : goal.loop-index-preserved
+loop-index-preserved g c = λ seg n E rests prepared stored depth.
     let rows = g.K.RowTable in
     let tally = g.C.Fruit.Tally in
     let t = rows.table c.args.self.now.inner in
@@ -42,67 +28,54 @@ loop-row-preserved g c = λ seg n E rests prepared stored depth.
     let feeding : Feeding tally.Worth = record { nothing = tally.nothing; fed = tally.fed } in
     let above = above_steps c.args.above in
     let listed = rows.listed c.args.self.now.inner c.args.bucket in
-    let i = c.loop-row.index in
+    let i = c.loop-index.index in
     let k = c.in-Some.row in
     let read = sym c.in-Some.ensures in
-    let here = read_some listed i k read in
-    let low = (g.met.K.RowTable.lists c.args.self.now.inner c.args.bucket).below i here.0 in
-    let there : k < t.rows = subst (λ (j : ℕ). j < t.rows) here.1 low.0 in
-    let inv = c.loop-row.invariant seg n E rests prepared stored depth in
-    let one = c.write_row-end.ensures seg n E there rests prepared stored depth in
+    let there = listed_row t c.args.bucket listed i k (g.met.K.RowTable.lists c.args.self.now.inner c.args.bucket) read in
+    let inv = c.loop-index.invariant seg n E rests prepared stored depth in
+    let one = c.write_row-end.ensures seg n t.rows E rests prepared there stored (omega (arith, depth, length-append above (t.step k ∷ []))) in
     let es = inv.0 in
     let bs = one.0 in
-    let entry : Entry tally.Worth = record { path = above ++ (t.step k ∷ []); count = t.count k; worth = row_worth feeding plan.levels plan.column plan.field_type seg (E k) } in (
+    let entry = entry_at feeding plan seg t E above k in (
       es ++ (entry ∷ bs),
       (
         subst (λ (ks : List ℕ). BlocksOf feeding plan seg t E above ks (es ++ (entry ∷ bs))) (sym (more listed i k read)) (blocks_more feeding plan seg t E above (take i listed) es k bs inv.1.0 one.1.0),
         λ room.
             let size = length-append es (entry ∷ bs) in
             let first = inv.1.1 (omega (arith, room, size)) in
-            let fill = put_size tally.worth c.args.out.now c.loop-row.out c.args.at c.loop-row.end es first in
-            let second = one.1.1 (omega (arith, room, size, first.size, fill, c.loop-row.auto.out)) in
-            let fill2 = put_size tally.worth c.loop-row.out c.write_row-end.new.out c.loop-row.end c.write_row-end.result (entry ∷ bs) second in
-            put_then tally.worth c.args.out.now c.loop-row.out c.write_row-end.new.out c.args.at c.loop-row.end c.write_row-end.result es (entry ∷ bs)
-            (omega (arith, room, size, first.size, fill, second.size, fill2)) first second,
+            let fill = put_size first in
+            let second = one.1.1 (omega (arith, room, size, first.size, fill, c.loop-index.auto.out)) in
+            let fill2 = put_size second in
+            put_then (omega (arith, room, size, first.size, fill, second.size, fill2)) first second,
       ),
     )
 
-pub returns : goal.returns
-returns g c = λ seg n buckets D settled prepared below holds depth.
-    let rows = g.K.RowTable in
+pub returns-in_default : goal.returns-in_default
+returns-in_default g c = λ seg n buckets D settled prepared below holds depth.
     let cache = g.C.SubAggCache in
     let tally = g.C.Fruit.Tally in
-    let t = rows.table c.args.self.now.inner in
+    let inner = c.args.self.now.inner in
     let was = c.args.self.now.below in
-    let slots = c.args.slots.now in
-    let plan = cache.plan was in
+    let t = g.K.RowTable.table inner in
+    let listed = g.K.RowTable.listed inner c.args.bucket in
+    let lists = g.met.K.RowTable.lists inner c.args.bucket in
     let feeding : Feeding tally.Worth = record { nothing = tally.nothing; fed = tally.fed } in
-    let above = above_steps c.args.above in
-    let b = c.args.bucket in
-    let listed = rows.listed c.args.self.now.inner b in
-    let sound = g.met.K.RowTable.sound c.args.self.now.inner in
-    let lists = g.met.K.RowTable.lists c.args.self.now.inner b in
     let y = holds.filed in
-    let carried = Carries (cache.stored was slots seg (suc n) t.rows) (cache.waiting was) in
-    let none = waits_none (cache.waiting was) (cache.pending was) (g.met.C.SubAggCache.waits was) settled.0 in
-    let same : y.of_rows.carries.under ≡ y.docs_of = sym (all_added_none y.of_rows.carries.under (cache.waiting was) none) ∙ y.of_rows.carries.whole in
-    let stored : cache.stored was slots seg (suc n) t.rows y.docs_of = subst (cache.stored was slots seg (suc n) t.rows) same y.of_rows.carries.stores in
-    let inv = c.loop-row.invariant seg (suc n) y.docs_of settled.1 prepared.1 stored depth in
-    let es = inv.0 in
-    let whole : take c.loop-row.index listed ≡ listed = take_all c.loop-row.index listed (read_none listed c.loop-row.index (sym c.in_default.ensures)) in
-    let blocks = subst (λ (ks : List ℕ). BlocksOf feeding plan seg t y.docs_of above ks es) whole inv.1.0 in (
-      es,
-      (
-        (
-          map t.step listed,
-          (
-            steps_listed t seg b (D b) listed lists
-                (λ k h e. subst (λ (j : ℕ). Step t.level seg (D j) (t.step k)) e (steps-held t sound seg n buckets carried D y k h))
-                (λ s st. has_step t seg buckets buckets carried D y prepared.0 b s below st),
-            blocks-written feeding plan seg t y.docs_of above (D b) listed es
-                (λ i h. let low = lists.below i h in (y.docs (get_or listed i 0) low.0 ∙ ap (λ (j : ℕ). row_docs t.level seg (t.step (get_or listed i 0)) (D j)) low.1, y.of_rows.counted (get_or listed i 0) low.0)) blocks,
-          ),
-        ),
-        inv.1.1,
-      ),
-    )
+    let stored = carry_none (waits_none (g.met.C.SubAggCache.waits was) settled.0) y.of_rows.carries in
+    all_put feeding (cache.plan was) seg t (g.met.K.RowTable.sound inner) D y prepared.0 below lists (above_steps c.args.above) (read_none listed c.loop-index.index (sym c.in_default.ensures))
+    (c.loop-index.invariant seg (suc n) y.docs_of settled.1 prepared.1 stored depth)
+
+pub returns-after-loop-index : goal.returns-after-loop-index
+returns-after-loop-index g c = λ seg n buckets D settled prepared below holds depth.
+    let cache = g.C.SubAggCache in
+    let tally = g.C.Fruit.Tally in
+    let inner = c.args.self.now.inner in
+    let was = c.args.self.now.below in
+    let t = g.K.RowTable.table inner in
+    let listed = g.K.RowTable.listed inner c.args.bucket in
+    let lists = g.met.K.RowTable.lists inner c.args.bucket in
+    let feeding : Feeding tally.Worth = record { nothing = tally.nothing; fed = tally.fed } in
+    let y = holds.filed in
+    let stored = carry_none (waits_none (g.met.C.SubAggCache.waits was) settled.0) y.of_rows.carries in
+    all_put feeding (cache.plan was) seg t (g.met.K.RowTable.sound inner) D y prepared.0 below lists (above_steps c.args.above) (omega (arith, listed_few t c.args.bucket listed empty lists, c.loop-index-test.false, c.num_rows-index-end.ensures))
+    (c.loop-index.invariant seg (suc n) y.docs_of settled.1 prepared.1 stored depth)

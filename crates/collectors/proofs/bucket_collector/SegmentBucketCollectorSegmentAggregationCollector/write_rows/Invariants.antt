@@ -1,5 +1,5 @@
 -- The blocks of the rows before `index` are written, if there was room.
-use Rattle.std.proofs.Common.{ℕ, suc, ◌+◌, ◌-◌, ◌≤◌, List, length, take}
+use Rattle.std.proofs.Common.{ℕ, suc, ◌+◌, ◌≤◌, List, length, take}
 use Rattle.records.specs.Rows.{Entry}
 use Rattle.segments.specs.Segments.{Seg}
 use Rattle.stack.specs.Overruns.{Deliveries}
@@ -7,8 +7,8 @@ use Rattle.stack.specs.Writing.{above_steps, Put}
 use Rattle.collectors.proofs.Writing.{BlocksOf}
 use Rattle.collectors.proofs.bucket_collector.SegmentBucketCollectorSegmentAggregationCollector.write_rows.Given as goal
 
-abbrev pub invariant-loop-row : goal.invariant-loop-row
-invariant-loop-row g l =
+abbrev pub invariant-loop-index : goal.invariant-loop-index
+invariant-loop-index g l =
     let rows = g.K.RowTable in
     let cache = g.C.SubAggCache in
     let tally = g.C.Fruit.Tally in
@@ -18,6 +18,3 @@ invariant-loop-row g l =
     → length (above_steps l.above) + suc (length plan.levels) ≤ 3
     → (es : List (Entry tally.Worth)) × (BlocksOf (record { nothing = tally.nothing; fed = tally.fed }) plan seg t E (above_steps l.above) (take l.index (rows.listed l.self.inner l.bucket)) es
     × (l.at + length es ≤ length l.initial.out → Put tally.worth l.initial.out l.out l.at l.end es))
-
-abbrev pub decreases-loop-row : goal.decreases-loop-row
-decreases-loop-row g l = length (g.K.RowTable.listed l.self.inner l.bucket) - l.index
