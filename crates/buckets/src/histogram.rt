@@ -114,11 +114,8 @@ pub fn validate_histogram(
 ) -> Result<(), Fault>
     ensures { Answers result (histogram_fault level field_type req.now) }
 {
-    req.validate(field_type).map_err(|refusal| Fault {
-        refusal,
-        level,
-        place: 0,
-    })
+    req.validate(field_type)
+        .map_err(|refusal| refusal.at(level))
 }
 
 #[cfg(test)]
