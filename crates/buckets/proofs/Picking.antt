@@ -1,5 +1,5 @@
 -- What the picked indices are: each lemma goes by the number of indices.
-use Rattle.std.proofs.Common.{◌≡◌, ℕ, zero, suc, ◌<◌, ◌≤◌, Bool, true, false, ltb, IfSome, Some, None, Option, sym, refl, ap, ◌∙◌, subst, inl, inr, arith}
+use Rattle.std.proofs.Common.{◌≡◌, ℕ, zero, suc, ◌<◌, ◌≤◌, Bool, true, false, ltb, List, length, get_or, IfSome, Some, None, Option, ◌≢◌, sym, refl, ap, ◌∙◌, subst, inl, inr, arith}
 use Rattle.std.proofs.lemmas.Bool.{cases_eq, cases_Bool, cond-true, cond-false, le-ltb, or_left, or_right, or_cases, or_parts, or_from, both_ways}
 use Rattle.buckets.specs.Picks.{any_below, last_below, sooner, first_below}
 
@@ -103,6 +103,17 @@ module _ (p : ℕ → Bool) (before : ℕ → ℕ → Bool) where
           first = λ trans irr. below_suc (λ j. p j ≡ true → before j k ≡ false) n (r.first trans irr) (λ t. absurd (both_ways (p n) f t));
         }
   ]
+
+  -- in an order of all indices, only one
+  pub first_only : ((x y z : ℕ) → before x y ≡ true → before y z ≡ true → before x z ≡ true) → ((x : ℕ) → before x x ≡ false) → ((x y : ℕ) → x ≢ y → before x y ≡ false → before y x ≡ true) → (n k : ℕ) → k < n → p k ≡ true → ((j : ℕ) → j < n → p j ≡ true → before j k ≡ false) → first_below p before n ≡ Some k
+  first_only trans irr total n k h t f = go (first_below p before n) refl
+    where
+      go : (o : Option ℕ) → first_below p before n ≡ o → first_below p before n ≡ Some k
+      go None e = absurd (both_ways (p k) (none_first n e k h) t)
+      go (Some m) e = let r = some_first n m e in elim (cases_eq m k) [
+        | inl same ↦ e ∙ ap Some same
+        | inr d ↦ absurd (both_ways (before k m) (r.first trans irr k h t) (total m k d (f m r.there r.passes)))
+      ]
 
 -- by index, the first that passes is the one with none before it
 pub first_at : (p : ℕ → Bool) (n k : ℕ) → k < n → p k ≡ true → ((j : ℕ) → j < k → p j ≡ false) → first_below p ltb n ≡ Some k
