@@ -96,7 +96,7 @@ module _ (n : ℕ) (from to : ℕ → ℕ) (xs : List ℕ) (s : Shape xs) (few :
       let r = runs i h in
       elim (cases_lt k m) [
         | inl l ↦ let l' : k + 1 < length xs = omega arith in let t = end_is xs k l' in let u = up_to (k + 1) m (omega arith) ml in omega arith
-        | inr g ↦ let u = up_to m k g kl in absurd (let z : ⊥ = omega arith in z)
+        | inr g ↦ let u = up_to m k g kl in absurd (omega arith)
       ]
 
   end_same : (i k : ℕ) → i < n → k < length xs → get_or xs k 0 ≡ from i → tile_end xs k ≡ to i

@@ -24,7 +24,7 @@ module _ (n : ℕ) (from to : ℕ → ℕ) (xs ys : List ℕ) (sx : Shape xs) (s
       let r = ty.ranges i h in
       elim (cases_lt (r.0 + 1) (length ys)) [
         | inl l ↦ (r.0 + 1, (l, sym (end_is ys r.0 l) ∙ r.1.1.1))
-        | inr g ↦ let e = sym (end_top ys r.0 g) ∙ r.1.1.1 in absurd (let z : ⊥ = omega arith in z)
+        | inr g ↦ let e = sym (end_top ys r.0 g) ∙ r.1.1.1 in absurd (omega arith)
       ]
 
   -- every start is 0, the start of a range, or the end of one
@@ -59,18 +59,18 @@ not_early xs ys rx ry xy (suc k) s =
     elim (cases_lt p.0 q.0) [
       | inl l ↦ omega arith
       | inr g ↦ elim (cases_eq q.0 p.0) [
-        | inl e ↦ let same : get_or ys q.0 0 ≡ get_or ys p.0 0 = ap (λ (m : ℕ). get_or ys m 0) e in absurd (let z : ⊥ = omega (arith, same, p.1.1, q.1.1, less) in z)
-        | inr d ↦ let down = AllPairs-from_increasing ys ry q.0 p.0 0 (omega arith) p.1.0 in absurd (let z : ⊥ = omega (arith, down, p.1.1, q.1.1, less) in z)
+        | inl e ↦ let same : get_or ys q.0 0 ≡ get_or ys p.0 0 = ap (λ (m : ℕ). get_or ys m 0) e in absurd (omega (arith, same, p.1.1, q.1.1, less))
+        | inr d ↦ let down = AllPairs-from_increasing ys ry q.0 p.0 0 (omega arith) p.1.0 in absurd (omega (arith, down, p.1.1, q.1.1, less))
       ]
     ]
 
 -- in a rising list equal values stand at one place
 pub one_place : (xs : List ℕ) → IsStrictlyIncreasing xs → (i j : ℕ) → i < length xs → j < length xs → get_or xs i 0 ≡ get_or xs j 0 → i ≡ j
 one_place xs r i j a b e = elim (cases_lt i j) [
-  | inl l ↦ let u = AllPairs-from_increasing xs r i j 0 l b in absurd (let z : ⊥ = omega arith in z)
+  | inl l ↦ let u = AllPairs-from_increasing xs r i j 0 l b in absurd (omega arith)
   | inr g ↦ elim (cases_eq i j) [
     | inl same ↦ same
-    | inr d ↦ let u = AllPairs-from_increasing xs r j i 0 (omega arith) a in absurd (let z : ⊥ = omega arith in z)
+    | inr d ↦ let u = AllPairs-from_increasing xs r j i 0 (omega arith) a in absurd (omega arith)
   ]
 ]
 

@@ -31,15 +31,15 @@ pair-less a i b j = grind (arith, nat_tests)
 -- ---- none of several
 none_of : {A : Type 0} (a b : Option A) → option_or a b ≡ None → (a ≡ None) × (b ≡ None)
 none_of None b e = (refl, e)
-none_of (Some x) b e = let z : ◌≡◌ {A = ℕ} 0 1 = cc in absurd (let y : ⊥ = omega arith in y)
+none_of (Some x) b e = absurd cc
 
 not_when : {A : Type 0} (b : Bool) (x : A) → then_some b x ≡ None → b ≡ false
-not_when true x e = let z : ◌≡◌ {A = ℕ} 0 1 = cc in absurd (let y : ⊥ = omega arith in y)
+not_when true x e = absurd cc
 not_when false x e = refl
 
 not_mapped : {A B : Type 0} (f : A → B) (o : Option A) → option_map f o ≡ None → o ≡ None
 not_mapped f None e = refl
-not_mapped f (Some x) e = let z : ◌≡◌ {A = ℕ} 0 1 = cc in absurd (let y : ⊥ = omega arith in y)
+not_mapped f (Some x) e = absurd cc
 
 module _ (t : ColumnType) (rs : List RangeAggregationRange) where
   good : first_bad t rs ≡ None → (i : ℕ) → i < length rs → (no_number (get_or rs i open_range).from ≡ false) × ((no_number (get_or rs i open_range).to ≡ false) × (from_at t rs i < to_at t rs i))
