@@ -1,11 +1,11 @@
 -- The tiling of ranges from its starts: 0, the ranges' starts, and their ends below the top.
 use Rattle.std.proofs.Common.{◌≡◌, ℕ, ◌+◌, ◌<◌, ◌≤◌, eqb, ◌≢◌, ◌⊎◌, List, length, get_or, sym, refl, ap, ◌∙◌, subst, inl, inr, arith}
+use Rattle.std.proofs.lemmas.List.Kept.{AllPairs-from_increasing}
 use Rattle.std.proofs.lemmas.Bool.{cases_lt, cases_eq, cases_Bool, eqb-true, eqb-false}
 use Rattle.buckets.specs.Picks.{any_below}
 use Rattle.buckets.specs.Tilings.{top, tile_end, StartsAt, WithStart, Shape, TileIs, Hole, Tiles}
 use Rattle.buckets.proofs.Determined.{end_is, end_top}
 use Rattle.buckets.proofs.Picking.{some_any, none_any}
-use Rattle.buckets.proofs.Rows.{rises_far}
 
 -- y is the start or the end of one of the first i ranges
 abbrev pub Bound : (ℕ → ℕ) → (ℕ → ℕ) → ℕ → ℕ → Type 0
@@ -52,7 +52,7 @@ module _ (n : ℕ) (from to : ℕ → ℕ) (xs : List ℕ) (s : Shape xs) (few :
     (runs : (i : ℕ) → i < n → from i < to i)
     (apart : (i j : ℕ) → i < n → j < n → i ≢ j → (to i ≤ from j) ⊎ (to j ≤ from i)) where
   up : (i j : ℕ) → i < j → j < length xs → get_or xs i 0 < get_or xs j 0
-  up = rises_far xs (length xs) s.rises
+  up i j = AllPairs-from_increasing xs s.rises i j 0
 
   up_to : (i j : ℕ) → i ≤ j → j < length xs → get_or xs i 0 ≤ get_or xs j 0
   up_to i j l h = elim (cases_eq i j) [
@@ -96,7 +96,7 @@ module _ (n : ℕ) (from to : ℕ → ℕ) (xs : List ℕ) (s : Shape xs) (few :
       let r = runs i h in
       elim (cases_lt k m) [
         | inl l ↦ let l' : k + 1 < length xs = omega arith in let t = end_is xs k l' in let u = up_to (k + 1) m (omega arith) ml in omega arith
-        | inr g ↦ let u = up_to m k g kl in absurd (let z : ⊥ = omega arith in z)
+        | inr g ↦ let u = up_to m k g kl in absurd (omega arith)
       ]
 
   end_same : (i k : ℕ) → i < n → k < length xs → get_or xs k 0 ≡ from i → tile_end xs k ≡ to i

@@ -1,4 +1,5 @@
 pub mod Bounding
+pub mod Chains
 pub mod Determined
 pub mod Inserting
 pub mod Picking

@@ -1,18 +1,15 @@
 -- What the picked indices are: each lemma goes by the number of indices.
-use Rattle.std.proofs.Common.{◌≡◌, ℕ, zero, suc, ◌<◌, ◌≤◌, Bool, true, false, ltb, IfSome, Some, None, Option, sym, refl, ap, ◌∙◌, subst, inl, inr, arith}
+use Rattle.std.proofs.Common.{◌≡◌, ℕ, zero, suc, ◌<◌, Bool, true, false, ltb, Some, None, Option, ◌≢◌, sym, refl, ap, ◌∙◌, subst, inl, inr, arith, below_more}
 use Rattle.std.proofs.lemmas.Bool.{cases_eq, cases_Bool, cond-true, cond-false, le-ltb, or_left, or_right, or_cases, or_parts, or_from, both_ways}
 use Rattle.buckets.specs.Picks.{any_below, last_below, sooner, first_below}
 
-none_left : {A : Type 0} (k : ℕ) → k < 0 → A
-none_left k h = absurd (let z : ⊥ = omega arith in z)
-
 -- what holds below n and at n holds below n + 1
 below_suc : (P : ℕ → Type 0) (n : ℕ) → ((j : ℕ) → j < n → P j) → P n → (j : ℕ) → j < suc n → P j
-below_suc P n f h j l = elim (cases_eq j n) [ inl e ↦ subst P (sym e) h | inr d ↦ f j (omega arith) ]
+below_suc P n f h j l = below_more P n f h j (omega arith)
 
 -- the last index that passes is the one with none behind it
 pub last_is : (p : ℕ → Bool) (n k : ℕ) → k < n → p k ≡ true → ((j : ℕ) → k < j → j < n → p j ≡ false) → last_below p n ≡ k
-last_is p zero k h t f = none_left k h
+last_is p zero k h t f = absurd (omega arith)
 last_is p (suc n) k h t f = elim (cases_eq k n) [
   | inl e ↦ cond-true (p n) n (last_below p n) (subst (λ (x : ℕ). p x ≡ true) e t) ∙ sym e
   | inr d ↦
@@ -22,7 +19,7 @@ last_is p (suc n) k h t f = elim (cases_eq k n) [
 
 -- some index passes, or none
 pub any_at : (p : ℕ → Bool) (n k : ℕ) → k < n → p k ≡ true → any_below p n ≡ true
-any_at p zero k h t = none_left k h
+any_at p zero k h t = absurd (omega arith)
 any_at p (suc n) k h t = elim (cases_eq k n) [
   | inl e ↦ or_left (p n) (any_below p n) (subst (λ (x : ℕ). p x ≡ true) e t)
   | inr d ↦ or_right (p n) (any_below p n) (any_at p n k (omega arith) t)
@@ -40,7 +37,7 @@ some_any p (suc n) t = elim (or_cases (p n) (any_below p n) t) [
 ]
 
 pub none_any : (p : ℕ → Bool) (n : ℕ) → any_below p n ≡ false → (j : ℕ) → j < n → p j ≡ false
-none_any p zero f j h = none_left j h
+none_any p zero f j h = absurd (omega arith)
 none_any p (suc n) f j h = let both = or_parts (p n) (any_below p n) f in below_suc (λ j. p j ≡ false) n (none_any p n both.1) both.0 j h
 
 -- the first that passes
@@ -56,9 +53,9 @@ module _ (p : ℕ → Bool) (before : ℕ → ℕ → Bool) where
   first-none (suc n) f = passed n (f n (omega arith)) ∙ first-none n (λ j h. f j (omega arith))
 
   pub none_first : (n : ℕ) → first_below p before n ≡ None → (j : ℕ) → j < n → p j ≡ false
-  none_first zero e j h = none_left j h
+  none_first zero e j h = absurd (omega arith)
   none_first (suc n) e j h = elim (cases_Bool (p n)) [
-    | inl t ↦ let e' = sym (taken n t) ∙ e in let z : ◌≡◌ {A = ℕ} 0 1 = cc in absurd (let y : ⊥ = omega arith in y)
+    | inl t ↦ let e' = sym (taken n t) ∙ e in absurd cc
     | inr f ↦ below_suc (λ j. p j ≡ false) n (none_first n (sym (passed n f) ∙ e)) f j h
   ]
 
@@ -90,7 +87,7 @@ module _ (p : ℕ → Bool) (before : ℕ → ℕ → Bool) where
   ]
 
   pub some_first : (n k : ℕ) → first_below p before n ≡ Some k → First n k
-  some_first zero k e = let z : ◌≡◌ {A = ℕ} 0 1 = cc in absurd (let y : ⊥ = omega arith in y)
+  some_first zero k e = absurd cc
   some_first (suc n) k e = elim (cases_Bool (p n)) [
     | inl t ↦
         let same : sooner before n (first_below p before n) ≡ k = let e' = sym (taken n t) ∙ e in cc in
@@ -104,9 +101,20 @@ module _ (p : ℕ → Bool) (before : ℕ → ℕ → Bool) where
         }
   ]
 
+  -- in an order of all indices, only one
+  pub first_only : ((x y z : ℕ) → before x y ≡ true → before y z ≡ true → before x z ≡ true) → ((x : ℕ) → before x x ≡ false) → ((x y : ℕ) → x ≢ y → before x y ≡ false → before y x ≡ true) → (n k : ℕ) → k < n → p k ≡ true → ((j : ℕ) → j < n → p j ≡ true → before j k ≡ false) → first_below p before n ≡ Some k
+  first_only trans irr total n k h t f = go (first_below p before n) refl
+    where
+      go : (o : Option ℕ) → first_below p before n ≡ o → first_below p before n ≡ Some k
+      go None e = absurd (both_ways (p k) (none_first n e k h) t)
+      go (Some m) e = let r = some_first n m e in elim (cases_eq m k) [
+        | inl same ↦ e ∙ ap Some same
+        | inr d ↦ absurd (both_ways (before k m) (r.first trans irr k h t) (total m k d (f m r.there r.passes)))
+      ]
+
 -- by index, the first that passes is the one with none before it
 pub first_at : (p : ℕ → Bool) (n k : ℕ) → k < n → p k ≡ true → ((j : ℕ) → j < k → p j ≡ false) → first_below p ltb n ≡ Some k
-first_at p zero k h t f = none_left k h
+first_at p zero k h t f = absurd (omega arith)
 first_at p (suc n) k h t f = elim (cases_eq k n) [
   | inl e ↦
       taken p ltb n (subst (λ (x : ℕ). p x ≡ true) e t) ∙ ap (λ o. Some (sooner ltb n o)) (first-none p ltb n (λ j l. f j (omega arith))) ∙ ap Some (sym e)
@@ -117,8 +125,3 @@ first_at p (suc n) k h t f = elim (cases_eq k n) [
         | inr fn ↦ passed p ltb n fn ∙ ih
       ]
 ]
-
--- what is found lies below n
-pub first_inside : (p : ℕ → Bool) (before : ℕ → ℕ → Bool) (n m : ℕ) → n ≤ m → (o : Option ℕ) → o ≡ first_below p before n → IfSome o (λ k. k < m)
-first_inside p before n m h None e = tt
-first_inside p before n m h (Some k) e = omega (arith, (some_first p before n k (sym e)).there)

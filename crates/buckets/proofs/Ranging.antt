@@ -1,9 +1,10 @@
 -- What accepted and refused ranges are, from the definition of their refusal.
-use Rattle.std.proofs.Common.{◌≡◌, ℕ, ◌<◌, ◌≤◌, Bool, true, false, ◌&&◌, ◌||◌, eqb, ltb, leb, ◌≢◌, List, length, get_or, Some, None, Option, refl, inl, inr, arith}
-use Rattle.std.proofs.lemmas.Bool.{cases_lt, cases_Bool, and_parts, or_parts, lt-ltb, le-ltb, ne_eqb, ltb-true, leb-false, and_from, both_ways}
+use Rattle.std.proofs.Common.{◌≡◌, ℕ, ◌<◌, ◌≤◌, Bool, true, false, ◌&&◌, ◌||◌, eqb, ltb, leb, nat_cmp, ◌≢◌, List, length, get_or, Some, None, Option, refl, inl, inr, arith}
+use Rattle.std.proofs.lemmas.Bool.{cases_lt, cases_Bool, and_parts, or_parts, lt-ltb, le-ltb, ltb-true, leb-false, and_from, both_ways}
 use Rattle.std.proofs.lemmas.Bool.Decides.{nat_tests}
 use Rattle.std.specs.Option.{option_or, option_map}
 use Rattle.std.specs.Bool.{then_some}
+use Rattle.std.specs.Ordering.{is_lt, ordering_then}
 use Rattle.records.specs.declared.column_type.ColumnType.{ColumnType}
 use Rattle.records.specs.declared.fault.Refusal.TheVariants.{NoRange, TooManyRanges, BadRange, OverlappingRanges}
 use Rattle.buckets.specs.Ranges.{end_of, start_of, from_at, to_at, no_number, bad, open_range, earlier, late, first_bad, first_late, fault, range_fault, Accepted, OverlapAt}
@@ -11,30 +12,34 @@ use Rattle.buckets.specs.declared.range.RangeAggregationRange.{RangeAggregationR
 use Rattle.buckets.proofs.Picking.{none_first, none_any, some_any, some_first}
 
 -- ---- the order by start and then by index
-abbrev pair_before : ℕ → ℕ → ℕ → ℕ → Bool
+abbrev pub pair_before : ℕ → ℕ → ℕ → ℕ → Bool
 pair_before a i b j = ltb a b || (eqb a b && ltb i j)
 
-pair_trans : (a i b j c k : ℕ) → pair_before a i b j ≡ true → pair_before b j c k ≡ true → pair_before a i c k ≡ true
+pub pair_trans : (a i b j c k : ℕ) → pair_before a i b j ≡ true → pair_before b j c k ≡ true → pair_before a i c k ≡ true
 pair_trans a i b j c k h g = grind (arith, nat_tests)
 
-pair_irr : (a i : ℕ) → pair_before a i a i ≡ false
+pub pair_irr : (a i : ℕ) → pair_before a i a i ≡ false
 pair_irr a i = grind (arith, nat_tests)
 
-pair_total : (a i b j : ℕ) → i ≢ j → pair_before a i b j ≡ false → pair_before b j a i ≡ true
+pub pair_total : (a i b j : ℕ) → i ≢ j → pair_before a i b j ≡ false → pair_before b j a i ≡ true
 pair_total a i b j d f = grind (arith, nat_tests)
+
+-- it is the order of the pairs
+pub pair-less : (a i b j : ℕ) → is_lt (ordering_then (nat_cmp a b) (nat_cmp i j)) ≡ pair_before a i b j
+pair-less a i b j = grind (arith, nat_tests)
 
 -- ---- none of several
 none_of : {A : Type 0} (a b : Option A) → option_or a b ≡ None → (a ≡ None) × (b ≡ None)
 none_of None b e = (refl, e)
-none_of (Some x) b e = let z : ◌≡◌ {A = ℕ} 0 1 = cc in absurd (let y : ⊥ = omega arith in y)
+none_of (Some x) b e = absurd cc
 
 not_when : {A : Type 0} (b : Bool) (x : A) → then_some b x ≡ None → b ≡ false
-not_when true x e = let z : ◌≡◌ {A = ℕ} 0 1 = cc in absurd (let y : ⊥ = omega arith in y)
+not_when true x e = absurd cc
 not_when false x e = refl
 
 not_mapped : {A B : Type 0} (f : A → B) (o : Option A) → option_map f o ≡ None → o ≡ None
 not_mapped f None e = refl
-not_mapped f (Some x) e = let z : ◌≡◌ {A = ℕ} 0 1 = cc in absurd (let y : ⊥ = omega arith in y)
+not_mapped f (Some x) e = absurd cc
 
 module _ (t : ColumnType) (rs : List RangeAggregationRange) where
   good : first_bad t rs ≡ None → (i : ℕ) → i < length rs → (no_number (get_or rs i open_range).from ≡ false) × ((no_number (get_or rs i open_range).to ≡ false) × (from_at t rs i < to_at t rs i))
@@ -86,8 +91,8 @@ module _ (t : ColumnType) (rs : List RangeAggregationRange) where
       }
 
   -- ranges that are some, few and not bad are refused only for an overlap
-  pub only-overlap : (level : ℕ) → length rs ≢ 0 → length rs ≤ 16 → first_bad t rs ≡ None → range_fault level t rs ≡ option_map (fault OverlappingRanges level) (first_late t rs)
+  pub only-overlap : (level : ℕ) → eqb (length rs) 0 ≡ false → length rs ≤ 16 → first_bad t rs ≡ None → range_fault level t rs ≡ option_map (fault OverlappingRanges level) (first_late t rs)
   only-overlap level some few e =
-      (λ i. option_or (then_some (ne_eqb (length rs) 0 some i) (fault NoRange level 0))
+      (λ i. option_or (then_some (some i) (fault NoRange level 0))
       (option_or (then_some (le-ltb 16 (length rs) few i) (fault TooManyRanges level 0))
       (option_or (option_map (fault BadRange level) (e i)) (option_map (fault OverlappingRanges level) (first_late t rs)))))

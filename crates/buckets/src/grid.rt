@@ -51,21 +51,16 @@ impl Grid {
     pub fn counts(&self, val: f64) -> bool
         ensures { result ≡ counted self.now.hard_bounds val }
     {
-        match self.hard_bounds {
-            Some(bounds) => bounds.contains(val),
-            None => val.is_finite(),
-        }
+        self.hard_bounds
+            .map_or(val.is_finite(), |bounds| bounds.contains(val))
     }
 
     /// The slot of a counted value; none for one that is not counted.
     pub fn position(&self, val: f64) -> Option<i64>
         ensures { result ≡ position_of self.now val }
     {
-        if self.counts(val) {
-            Some(get_bucket_pos_f64(val, self.interval, self.offset))
-        } else {
-            None
-        }
+        self.counts(val)
+            .then(|| get_bucket_pos_f64(val, self.interval, self.offset))
     }
 
     /// Where a slot begins, from its position alone.
@@ -77,25 +72,19 @@ impl Grid {
 }
 
 /// On a grid with a finite interval above 0 and a finite offset, a larger number is in no lower slot.
-pub fn slots_rise_stands() -> u8
+pub fn slots_rise_stands()
     ensures { Rising }
-{
-    0
-}
+{}
 
 /// A request that is not refused has a grid with a finite interval above 0, a finite offset and no NaN for a bound.
-pub fn accepted_grid_stands() -> u8
+pub fn accepted_grid_stands()
     ensures { SoundIfAccepted }
-{
-    0
-}
+{}
 
 /// No grid counts a NaN.
-pub fn nan_uncounted_stands() -> u8
+pub fn nan_uncounted_stands()
     ensures { NanUncounted }
-{
-    0
-}
+{}
 
 #[cfg(test)]
 mod tests {

@@ -1,8 +1,7 @@
 //! The request of a histogram, and when it is refused.
-ghost use Rattle.std.specs.Prelude.{◌≡◌};
-ghost use Rattle.std.specs.Option.{option_map};
+ghost use Rattle.std.specs.Prelude.{◌≡◌, ◌||◌, is_nan};
 ghost use Rattle.std.specs.Result.{result_err};
-ghost use Rattle.buckets.specs.Grids.{within, outside, in_unit, in_unit_bounds, bad_bounds, bad_offset, bad_grid, grid_refusal, histogram_fault};
+ghost use Rattle.buckets.specs.Grids.{within, outside, in_unit, in_unit_bounds, bad_grid, grid_refusal, histogram_fault};
 ghost use Rattle.records.specs.Faults.{Answers};
 
 use records::column_type::{ColumnType, in_column_unit};
@@ -21,6 +20,13 @@ impl HistogramBounds {
         ensures { result ≡ within self.now val }
     {
         val >= self.min && val <= self.max
+    }
+
+    /// Whether an end is a NaN.
+    fn has_nan(&self) -> bool
+        ensures { result ≡ (is_nan self.now.min || is_nan self.now.max) }
+    {
+        self.min.is_nan() || self.max.is_nan()
     }
 
     /// The bounds in the column's unit.
@@ -49,43 +55,12 @@ pub struct HistogramAggregation {
     pub extended_bounds: Option<HistogramBounds>,
 }
 
-fn bounds_in_unit(
-    bounds: Option<HistogramBounds>,
-    field_type: ColumnType,
-) -> Option<HistogramBounds>
-    ensures { result ≡ option_map (in_unit_bounds field_type) bounds }
-{
-    match bounds {
-        Some(b) => Some(b.in_unit(field_type)),
-        None => None,
-    }
-}
-
-fn has_nan(bounds: Option<HistogramBounds>) -> bool
-    ensures { result ≡ bad_bounds bounds }
-{
-    match bounds {
-        Some(b) => b.min.is_nan() || b.max.is_nan(),
-        None => false,
-    }
-}
-
-fn is_bad_offset(offset: Option<f64>) -> bool
-    ensures { result ≡ bad_offset offset }
-{
-    match offset {
-        Some(x) => !x.is_finite(),
-        None => false,
-    }
-}
-
 fn lies_outside(extended: Option<HistogramBounds>, hard: Option<HistogramBounds>) -> bool
     ensures { result ≡ outside extended hard }
 {
-    match (extended, hard) {
-        (Some(e), Some(h)) => e.min < h.min || e.max > h.max,
-        _ => false,
-    }
+    extended
+        .zip(hard)
+        .is_some_and(|(e, h)| e.min < h.min || e.max > h.max)
 }
 
 impl HistogramAggregation {
@@ -95,13 +70,10 @@ impl HistogramAggregation {
     {
         HistogramAggregation {
             interval: in_column_unit(field_type, self.interval),
-            offset: match self.offset {
-                Some(x) => Some(in_column_unit(field_type, x)),
-                None => None,
-            },
+            offset: self.offset.map(|x| in_column_unit(field_type, x)),
             min_doc_count: self.min_doc_count,
-            hard_bounds: bounds_in_unit(self.hard_bounds, field_type),
-            extended_bounds: bounds_in_unit(self.extended_bounds, field_type),
+            hard_bounds: self.hard_bounds.map(|b| b.in_unit(field_type)),
+            extended_bounds: self.extended_bounds.map(|b| b.in_unit(field_type)),
         }
     }
 
@@ -111,9 +83,9 @@ impl HistogramAggregation {
     {
         !self.interval.is_finite()
             || self.interval <= 0.0
-            || is_bad_offset(self.offset)
-            || has_nan(self.hard_bounds)
-            || has_nan(self.extended_bounds)
+            || self.offset.is_some_and(|x| !x.is_finite())
+            || self.hard_bounds.is_some_and(|b| b.has_nan())
+            || self.extended_bounds.is_some_and(|b| b.has_nan())
     }
 
     /// Refuses a request that makes no grid, before or after its numbers are turned into the column's unit; then a least
@@ -142,14 +114,8 @@ pub fn validate_histogram(
 ) -> Result<(), Fault>
     ensures { Answers result (histogram_fault level field_type req.now) }
 {
-    match req.validate(field_type) {
-        Ok(()) => Ok(()),
-        Err(refusal) => Err(Fault {
-            refusal,
-            level,
-            place: 0,
-        }),
-    }
+    req.validate(field_type)
+        .map_err(|refusal| refusal.at(level))
 }
 
 #[cfg(test)]
@@ -163,7 +129,7 @@ mod tests {
         hard_max: f64,
         extended_max: f64,
         field_type: ColumnType,
-    ) -> u8 {
+    ) -> Option<u8> {
         let req = HistogramAggregation {
             interval,
             offset: None,
@@ -177,20 +143,22 @@ mod tests {
                 max: extended_max,
             }),
         };
-        match validate_histogram(&req, field_type, 1) {
-            Ok(()) => 0,
-            Err(fault) => fault.refusal.number(),
-        }
+        validate_histogram(&req, field_type, 1)
+            .err()
+            .map(|fault| fault.refusal.number())
     }
 
     #[test]
     fn refusals(rt: HostRuntime) {
-        assert_eq!(rt; refused(1.0, 0, 9.0, 9.0, ColumnType::F64), 0);
-        assert_eq!(rt; refused(0.0, 1, 9.0, 10.0, ColumnType::F64), 5);
-        assert_eq!(rt; refused(1.0, 1, 9.0, 10.0, ColumnType::F64), 6);
-        assert_eq!(rt; refused(1.0, 0, 9.0, 10.0, ColumnType::F64), 7);
-        assert_eq!(rt; refused(1e303, 1, 9.0, 10.0, ColumnType::F64), 6);
-        assert_eq!(rt; refused(1e303, 1, 9.0, 10.0, ColumnType::DateTime), 5);
-        assert_eq!(rt; refused(1.0, 0, 1e303, 2e303, ColumnType::DateTime), 7);
+        assert_eq!(rt; refused(1.0, 0, 9.0, 9.0, ColumnType::F64), None);
+        assert_eq!(rt; refused(0.0, 1, 9.0, 10.0, ColumnType::F64), Some(5));
+        assert_eq!(rt; refused(1.0, 1, 9.0, 10.0, ColumnType::F64), Some(6));
+        assert_eq!(rt; refused(1.0, 0, 9.0, 10.0, ColumnType::F64), Some(7));
+        assert_eq!(rt; refused(1e303, 1, 9.0, 10.0, ColumnType::F64), Some(6));
+        assert_eq!(rt; refused(1e303, 1, 9.0, 10.0, ColumnType::DateTime), Some(5));
+        assert_eq!(rt;
+            refused(1.0, 0, 1e303, 2e303, ColumnType::DateTime),
+            Some(7)
+        );
     }
 }

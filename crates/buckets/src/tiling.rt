@@ -5,6 +5,7 @@ ghost use Rattle.std.specs.Prelude.{◌≡◌, ℕ, ◌+◌, ◌-◌, ◌^◌, �
 /// the last ends at 2^64 − 1. Only the first `len` starts count; 16 ranges make at most 33 tiles.
 #[derive(Clone, Copy)]
 pub struct Tiling {
+    // A fixed table with its length: an `ArrayVec` is not Copy.
     pub(crate) starts: [u64; 33],
     pub(crate) len: usize,
     ghost whole: { length starts ≡ 33 },
