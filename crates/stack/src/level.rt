@@ -25,6 +25,8 @@ use segments::segment::Segment;
 ///
 /// Its state means the documents delivered for each bucket so far, in order, those that still wait in a cache included.
 /// The slots are the tallies of the last level's rows; they are lent with each call and always the same.
+// The segment, the limits and the slots are lent one by one: of a struct that holds the two `&mut`, each clause would have to
+// say in addition that they stay the same borrows.
 pub trait SegmentAggregationCollector {
     /// What is asked of this level and of those below it.
     type Request;
