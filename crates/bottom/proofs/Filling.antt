@@ -1,7 +1,7 @@
 -- Feeding the slots, and refusing a bucket past them.
-use Rattle.std.proofs.Common.{◌≡◌, ℕ, ◌+◌, ◌<◌, ◌≤◌, ◌≢◌, List, [], ◌∷◌, ◌++◌, length, get_or, set, take, Some, None, sym, refl, ap, ◌∙◌, subst, inl, inr, append_assoc, arith}
+use Rattle.std.proofs.Common.{◌≡◌, ℕ, ◌+◌, ◌<◌, ◌≤◌, ◌≢◌, List, [], ◌∷◌, ◌++◌, length, get_or, take, Some, None, sym, refl, ap, ◌∙◌, subst, inl, inr, append_assoc, arith}
 use Rattle.std.specs.List.{slice_get}
-use Rattle.std.proofs.lemmas.List.{append-nil, take_more, length-set, get_or-set_same, get_or-set_other, get_or_default}
+use Rattle.std.proofs.lemmas.List.{append-nil, take_more}
 use Rattle.std.proofs.lemmas.Bool.{cases_eq}
 use Rattle.records.specs.Refusals.{refusal_number}
 use Rattle.records.specs.declared.column_type.ColumnType.{ColumnType}
@@ -18,7 +18,7 @@ use Rattle.stack.specs.Calls.{for_rows, Overran}
 use Rattle.stack.specs.Writing.{Feeding}
 use Rattle.stack.proofs.Delivering.{added_same, added_other}
 use Rattle.stack.proofs.Overrunning.{bottom_over}
-use Rattle.bottom.specs.Bottoms.{bottom_plan, Slots}
+use Rattle.bottom.specs.Bottoms.{bottom_plan, SlotFed, Slots}
 
 -- the values of one list of documents, then of the other: by recursion on the first
 pub values_more : (g : Seg) (column : ℕ) (ds es : List ℕ) → values_of g column (ds ++ es) ≡ values_of g column ds ++ values_of g column es
@@ -44,23 +44,6 @@ doc_fed fed t g column ds i was w is h a b =
     ∙ ap (λ vs. fed_all fed t (vals (take i ds) ++ vs) was) (sym (append-nil (values g column d)))
     ∙ ap (λ vs. fed_all fed t vs was) (sym (values_more g column (take i ds) (d ∷ [])))
     ∙ ap (λ es. fed_all fed t (vals es) was) (sym (take_more ds i 0 h))
-
--- One slot is fed values, and all else is as it was.
-pub record SlotFed {T W : Type 0} (worth : T → W) (fed : ColumnType → ℕ → W → W) (t : ColumnType) (vals : List ℕ) (was is : List T) (at : ℕ) : Type 0 where
-  pub within : at < length was
-  pub same_length : length is ≡ length was
-  pub here : (d : T) → worth (get_or is at d) ≡ fed_all fed t vals (worth (get_or was at d))
-  pub others : (k : ℕ) (d : T) → (k ≢ at) → get_or is k d ≡ get_or was k d
-
--- A slot is written: its tally is worth what it was, fed the values.
-pub slot_fed : {T W : Type 0} (worth : T → W) (fed : ColumnType → ℕ → W → W) (t : ColumnType) (vals : List ℕ) (was : List T) (at : ℕ) (e new : T)
-    → at < length was → worth new ≡ fed_all fed t vals (worth (get_or was at e)) → SlotFed worth fed t vals was (set was at new) at
-slot_fed worth fed t vals was at e new h w = record {
-  within = h;
-  same_length = length-set was at new;
-  here = λ d. ap worth (get_or-set_same was at new d h) ∙ w ∙ ap (λ x. fed_all fed t vals (worth x)) (get_or_default was at e d h);
-  others = λ k d n. get_or-set_other was at k new d n;
-}
 
 -- The slot of a bucket is fed its documents; every other slot is as it was.
 pub slots_fed : {T W : Type 0} (worth : T → W) (f : Feeding W) (plan : Plan) (g : Seg) (was is : List T) (b : ℕ) (ds : List ℕ)

@@ -1,5 +1,5 @@
 -- The bottom of a stack: a slot for each row of the last level, fed the values of the documents delivered for that row.
-use Rattle.std.specs.Prelude.{◌≡◌, ℕ, ◌<◌, ◌≤◌, List, [], length, Some, None, Option, slice_index_or}
+use Rattle.std.specs.Prelude.{◌≡◌, ℕ, ◌<◌, ◌≤◌, List, [], length, Some, None, Option, ◌≢◌, slice_index_or}
 use Rattle.records.specs.declared.column_type.ColumnType.{ColumnType}
 use Rattle.records.specs.declared.column_type.ColumnType.TheVariants.{U64}
 use Rattle.records.specs.declared.fault.Fault.{Fault}
@@ -23,6 +23,13 @@ type_or_u64 (Some t) = t
 abbrev pub unknown_column : Option ColumnType → ℕ → Option Fault
 unknown_column None n = Some (fault UnknownColumn n)
 unknown_column (Some t) n = None
+
+-- one slot is fed values, and all else is as it was
+pub record SlotFed {T W : Type 0} (worth : T → W) (fed : ColumnType → ℕ → W → W) (t : ColumnType) (vals : List ℕ) (was is : List T) (at : ℕ) : Type 0 where
+  pub within : at < length was
+  pub same_length : length is ≡ length was
+  pub here : (d : T) → worth (slice_index_or is at d) ≡ fed_all fed t vals (worth (slice_index_or was at d))
+  pub others : (k : ℕ) (d : T) → (k ≢ at) → slice_index_or is k d ≡ slice_index_or was k d
 
 -- each bucket's slot is worth what its documents' values make of the empty tally, and no bucket lies past the slots
 pub record Slots {T W : Type 0} (worth : T → W) (f : Feeding W) (plan : Plan) (g : Seg) (slots : List T) (D : Deliveries) : Type 0 where

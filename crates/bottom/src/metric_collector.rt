@@ -7,7 +7,7 @@ ghost use Rattle.segments.specs.Segments.{values};
 ghost use Rattle.stack.specs.Levels.{values_of};
 ghost use Rattle.stack.specs.Overruns.{numbered};
 ghost use Rattle.stack.specs.Writing.{Feeding};
-ghost use Rattle.bottom.specs.Bottoms.{bottom_plan, type_or_u64, unknown_column, Slots};
+ghost use Rattle.bottom.specs.Bottoms.{bottom_plan, type_or_u64, unknown_column, SlotFed, Slots};
 ghost use Rattle.stack.proofs.Bounds.{complete_bottom};
 ghost use Rattle.std.proofs.Common.{rules};
 
@@ -88,6 +88,14 @@ impl<T: Tally> SegmentMetricCollector<T> {
             bottom.feed_doc(slot, &seg, *doc);
         }
     }
+
+    /// Feeds the tally in a slot the values of each document, first to last.
+    fn feed_slot<S: Segment>(&self, slots: &mut [T], at: usize, seg: &S, docs: &[u32])
+        requires { at < length slots.old }
+        ensures { SlotFed T.worth T.fed self.now.field_type (values_of (S.means seg.now) self.now.column docs.now) slots.old slots.new at }
+    {
+        self.feed_docs(&mut slots[at], seg, docs);
+    }
 }
 
 impl<T: Tally> SegmentAggregationCollector for SegmentMetricCollector<T> {
@@ -151,7 +159,7 @@ impl<T: Tally> SegmentAggregationCollector for SegmentMetricCollector<T> {
         docs: &[u32],
     ) -> Result<(), Fault> {
         self.check_slots(slots, bucket as usize + 1)?;
-        self.feed_docs(&mut slots[bucket as usize], seg, docs);
+        self.feed_slot(slots, bucket as usize, seg, docs);
         Ok(())
     }
 

@@ -1,11 +1,10 @@
 -- The bucket's slot takes the documents, or there is none.
 use Rattle.std.proofs.Common.{◌+◌, length, refl, arith}
 use Rattle.std.proofs.lemmas.Result.{err_from_is_err_and}
-use Rattle.stack.specs.Levels.{values_of}
 use Rattle.stack.specs.Overruns.{added}
 use Rattle.stack.proofs.Chaining.{charged_none}
 use Rattle.bottom.specs.Bottoms.{bottom_plan}
-use Rattle.bottom.proofs.Filling.{slot_fed, slots_fed, refused_past}
+use Rattle.bottom.proofs.Filling.{slots_fed, refused_past}
 use Rattle.bottom.proofs.metric_collector.SegmentMetricCollectorSegmentAggregationCollector.collect.Goals as goal
 
 pub returns-in_err-check_slots : goal.returns-in_err-check_slots
@@ -20,13 +19,9 @@ pub returns : goal.returns
 returns g c =
     let t = g.T.Tally in
     let s = c.args.self.now in
-    let seg = g.S.Segment.means c.args.seg.now in
-    let slots = c.args.slots.now in
-    let b = c.args.bucket in
-    let docs = c.args.docs.now in
-    let fed = slot_fed t.worth t.fed s.field_type (values_of seg s.column docs) slots b c.index-slots-bucket.result c.feed_docs.new.slot (omega (arith, c.in_ok-check_slots.ensures)) c.feed_docs.ensures in
     record {
-      keeps = λ n buckets i D h. (h.0, slots_fed t.worth record { nothing = t.nothing; fed = t.fed } (bottom_plan s.column s.field_type) seg slots _ b docs fed D h.1);
+      keeps = λ n buckets i D h.
+          (h.0, slots_fed t.worth record { nothing = t.nothing; fed = t.fed } (bottom_plan s.column s.field_type) (g.S.Segment.means c.args.seg.now) c.args.slots.now c.feed_slot.new.slots c.args.bucket c.args.docs.now c.feed_slot.ensures D h.1);
       same_plan = refl;
       charged = charged_none c.args._limits.now 0 0 refl;
     }
