@@ -59,62 +59,43 @@ impl<T> SegmentMetricCollector<T> {
         ensures { MatchResult result (λ _. buckets ≤ length slots.now) (λ f. (f ≡ record { refusal = TooManyRows; level = self.now.number; place = 0 }) × (length slots.now < buckets)) }
     {
         if buckets > slots.len() {
-            return Err(Fault {
-                refusal: Refusal::TooManyRows,
-                level: self.number,
-                place: 0,
-            });
+            return Err(Refusal::TooManyRows.at(self.number));
         }
         Ok(())
     }
 }
 
-/// Feeds a tally the values of a document, first to last.
-fn feed_doc<T: Tally, S: Segment>(
-    slot: &mut T,
-    seg: &S,
-    column: u32,
-    field_type: ColumnType,
-    doc: u32,
-)
-    ensures { T.Tally.worth slot.new ≡ fed_all T.Tally.fed field_type (values (S.Segment.means seg.now) column doc) (T.Tally.worth slot.old) }
-{
-    for index in 0..seg.num_values(column, doc) {
-        if let Some(val) = seg.value_at(column, doc, index) {
-            slot.feed(field_type, val);
+impl<T: Tally> SegmentMetricCollector<T> {
+    /// Feeds a tally the values of a document, first to last.
+    fn feed_doc<S: Segment>(&self, slot: &mut T, seg: &S, doc: u32)
+        ensures { T.worth slot.new ≡ fed_all T.fed self.now.field_type (values (S.means seg.now) self.now.column doc) (T.worth slot.old) }
+    {
+        // By index: a segment may hold its values in any form, so it lends no slice.
+        for index in 0..seg.num_values(self.column, doc) {
+            if let Some(val) = seg.value_at(self.column, doc, index) {
+                slot.feed(self.field_type, val);
+            }
         }
     }
-}
 
-/// Feeds a tally the values of each document, first to last.
-fn feed_docs<T: Tally, S: Segment>(
-    slot: &mut T,
-    seg: &S,
-    column: u32,
-    field_type: ColumnType,
-    docs: &[u32],
-)
-    ensures { T.Tally.worth slot.new ≡ fed_all T.Tally.fed field_type (values_of (S.Segment.means seg.now) column docs.now) (T.Tally.worth slot.old) }
-{
-    let seg = *seg;
-    for doc in docs {
-        feed_doc(slot, &seg, column, field_type, *doc);
+    /// Feeds a tally the values of each document, first to last.
+    fn feed_docs<S: Segment>(&self, slot: &mut T, seg: &S, docs: &[u32])
+        ensures { T.worth slot.new ≡ fed_all T.fed self.now.field_type (values_of (S.means seg.now) self.now.column docs.now) (T.worth slot.old) }
+    {
+        // Copies, whose fields stay in registers beside what the loop writes.
+        let (bottom, seg) = (*self, *seg);
+        for doc in docs {
+            bottom.feed_doc(slot, &seg, *doc);
+        }
     }
-}
 
-/// Feeds the tally in a slot the values of each document, first to last.
-fn feed_slot<T: Tally, S: Segment>(
-    slots: &mut [T],
-    at: usize,
-    seg: &S,
-    column: u32,
-    field_type: ColumnType,
-    docs: &[u32],
-)
-    requires { at < length slots.old }
-    ensures { SlotFed T.Tally.worth T.Tally.fed field_type (values_of (S.Segment.means seg.now) column docs.now) slots.old slots.new at }
-{
-    feed_docs(&mut slots[at], seg, column, field_type, docs);
+    /// Feeds the tally in a slot the values of each document, first to last.
+    fn feed_slot<S: Segment>(&self, slots: &mut [T], at: usize, seg: &S, docs: &[u32])
+        requires { at < length slots.old }
+        ensures { SlotFed T.worth T.fed self.now.field_type (values_of (S.means seg.now) self.now.column docs.now) slots.old slots.new at }
+    {
+        self.feed_docs(&mut slots[at], seg, docs);
+    }
 }
 
 impl<T: Tally> SegmentAggregationCollector for SegmentMetricCollector<T> {
@@ -148,14 +129,9 @@ impl<T: Tally> SegmentAggregationCollector for SegmentMetricCollector<T> {
         seg: &S,
         level: u32,
     ) -> Result<(), Fault> {
-        match seg.column_type(request.column) {
-            Some(_) => Ok(()),
-            None => Err(Fault {
-                refusal: Refusal::UnknownColumn,
-                level,
-                place: 0,
-            }),
-        }
+        seg.column_type(request.column)
+            .map(|_| ())
+            .ok_or(Refusal::UnknownColumn.at(level))
     }
 
     fn reset<S: Segment>(
@@ -168,12 +144,9 @@ impl<T: Tally> SegmentAggregationCollector for SegmentMetricCollector<T> {
     ) {
         self.number = level;
         self.column = request.column;
-        self.field_type = match seg.column_type(request.column) {
-            Some(field_type) => field_type,
-            None => ColumnType::U64,
-        };
-        for at in 0..slots.len() {
-            slots[at] = T::empty();
+        self.field_type = seg.column_type(request.column).unwrap_or(ColumnType::U64);
+        for slot in slots.iter_mut() {
+            *slot = T::empty();
         }
     }
 
@@ -186,14 +159,7 @@ impl<T: Tally> SegmentAggregationCollector for SegmentMetricCollector<T> {
         docs: &[u32],
     ) -> Result<(), Fault> {
         self.check_slots(slots, bucket as usize + 1)?;
-        feed_slot(
-            slots,
-            bucket as usize,
-            seg,
-            self.column,
-            self.field_type,
-            docs,
-        );
+        self.feed_slot(slots, bucket as usize, seg, docs);
         Ok(())
     }
 
@@ -213,8 +179,7 @@ impl<T: Tally> SegmentAggregationCollector for SegmentMetricCollector<T> {
         slots: &[T],
         buckets: u32,
     ) -> Result<(), Fault> {
-        self.check_slots(slots, buckets as usize)?;
-        Ok(())
+        self.check_slots(slots, buckets as usize)
     }
 
     fn num_rows(&self) -> Option<usize> {
@@ -222,12 +187,7 @@ impl<T: Tally> SegmentAggregationCollector for SegmentMetricCollector<T> {
     }
 
     fn tally_of(&self, slots: &[T], bucket: u32) -> T {
-        let row = bucket as usize;
-        if row < slots.len() {
-            slots[row]
-        } else {
-            T::empty()
-        }
+        slots.get(bucket as usize).copied().unwrap_or(T::empty())
     }
 
     fn write_rows(
@@ -296,11 +256,7 @@ mod tests {
         let mut slots = [Extremes::empty()];
         let mut bottom = SegmentMetricCollector::<Extremes>::new();
         bottom.reset(&MetricRequest { column: 0 }, &[], &seg, &mut slots, 3);
-        let past = Fault {
-            refusal: Refusal::TooManyRows,
-            level: 3,
-            place: 0,
-        };
+        let past = Refusal::TooManyRows.at(3);
         assert!(rt;
             bottom
                 .collect(&seg, &mut limits, &mut slots, 0, &[1, 0, 1])

@@ -1,8 +1,10 @@
 -- Documents paired with bucket numbers, part by part and run by run.
-use Rattle.std.proofs.Common.{◌≡◌, ℕ, zero, suc, ◌+◌, ◌-◌, ◌<◌, ◌≤◌, Bool, true, false, cond, eqb, ◌⊎◌, List, [], ◌∷◌, ◌++◌, length, get_or, take, drop, sym, refl, ap, ◌∙◌, inl, inr, append_assoc, arith, length-append, drop-cons}
+use Rattle.std.proofs.Common.{◌≡◌, ℕ, zero, suc, ◌+◌, ◌-◌, ◌<◌, ◌≤◌, Bool, true, false, cond, eqb, ◌==◌, ◌⊎◌, List, [], ◌∷◌, ◌++◌, length, get_or, take, drop, sym, refl, ap, ◌∙◌, subst, inl, inr, append_assoc, arith, length-append, drop-cons}
 use mathlib.Core.Path.{fun_ext}
 use Rattle.std.proofs.lemmas.List.{append-nil, get_or-take, get_or-drop, length-take, length-drop, take-take, drop-take, drop_all}
-use Rattle.std.proofs.lemmas.Bool.{cases_eq, cases_lt, cond-true, cond-false, eq-eqb, ne_eqb}
+use Rattle.std.specs.List.{prefix_len}
+use Rattle.std.proofs.lemmas.List.Sums.{prefix_len-le-length, prefix_len_passes, prefix_len_stops}
+use Rattle.std.proofs.lemmas.Bool.{cases_eq, cases_lt, cond-true, cond-false, eqb-true, eq-eqb, ne_eqb}
 use Rattle.stack.specs.Overruns.{Deliveries, added, all_added, More}
 use Rattle.stack.specs.Calls.{docs_for, paired, Inside, Run}
 
@@ -41,6 +43,39 @@ docs_run k b (c ∷ bs) (d ∷ ds) f e =
 -- the pairs before a place
 abbrev pub before : List ℕ → List ℕ → ℕ → Deliveries
 before bs ds i k = docs_for k (take i bs) (take i ds)
+
+-- from a place on, as many numbers as equal the one there are a run
+module _ (bs : List ℕ) (start pairs n : ℕ) (h : start < pairs) (l : pairs ≤ length bs)
+    (e : n ≡ prefix_len (λ b. b == get_or bs start 0) (take (pairs - start) (drop start bs))) where
+  size : length (take (pairs - start) (drop start bs)) ≡ pairs - start
+  size = omega (arith, length-take (pairs - start) (drop start bs), length-drop start bs)
+
+  at : (k : ℕ) → k < pairs - start → get_or (take (pairs - start) (drop start bs)) k 0 ≡ get_or bs (start + k) 0
+  at k i = get_or-take (pairs - start) (drop start bs) k 0 i ∙ get_or-drop start bs k 0
+
+  few : n ≤ pairs - start
+  few = omega (arith, e, prefix_len-le-length (λ b. b == get_or bs start 0) (take (pairs - start) (drop start bs)), size)
+
+  stops : n < pairs - start → get_or bs (start + n) 0 ≡ get_or bs start 0 → ⊥
+  stops i q =
+      let xs = take (pairs - start) (drop start bs) in
+      let p : ℕ → Bool = λ b. b == get_or bs start 0 in
+      let no : p (get_or xs n 0) ≡ false = subst (λ (m : ℕ). p (get_or xs m 0) ≡ false) (sym e) (prefix_len_stops p xs 0 (omega (arith, e, i, size))) in
+      let yes : p (get_or xs n 0) ≡ true = eq-eqb (get_or xs n 0) (get_or bs start 0) (at n i ∙ q) in
+      cc
+
+  pub run_of : Run bs start pairs (start + n)
+  run_of = record {
+    some = elim (cases_lt 0 n) [ inl i ↦ omega (arith, i) | inr i ↦ absurd (stops (omega (arith, i, h)) (ap (λ (k : ℕ). get_or bs k 0) (let z : start + n ≡ start = omega (arith, i) in z))) ];
+    within = omega (arith, few, h);
+    equal = λ k i j.
+        let m = k - start in
+        let there : start + m ≡ k = omega (arith, i) in
+        let before : m < n = omega (arith, i, j) in
+        let passes = prefix_len_passes (λ b. b == get_or bs start 0) (take (pairs - start) (drop start bs)) m 0 (omega (arith, e, before)) in
+        ap (λ (x : ℕ). get_or bs x 0) (sym there) ∙ sym (at m (omega (arith, before, few))) ∙ eqb-true _ _ passes;
+    ends = λ i. stops (omega (arith, i, h));
+  }
 
 module _ (bs ds : List ℕ) (start end pairs : ℕ) (run : Run bs start pairs end) (lb : pairs ≤ length bs) (ld : pairs ≤ length ds) where
   part : List ℕ

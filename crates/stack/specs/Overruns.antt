@@ -1,6 +1,7 @@
 -- Which rows exist below buckets, and when they are too many. A level stands below numbered buckets; what was delivered
 -- for bucket b are the documents D b, in order.
 use Rattle.std.specs.Prelude.{◌≡◌, ℕ, zero, suc, ◌+◌, ◌-◌, ◌^◌, ◌<◌, ◌≤◌, min, cond, List, [], ◌∷◌, ◌++◌, length, ℤ, ◌==◌, ◌≢◌}
+use Rattle.std.specs.List.{AllByRecursion}
 use Rattle.records.specs.declared.fault.Fault.{Fault}
 use Rattle.records.specs.declared.fault.Refusal.{Refusal}
 use Rattle.records.specs.declared.fault.Refusal.TheVariants.{TooManyRows, AllowanceExceeded, CountOverflow}
@@ -37,8 +38,7 @@ abbrev pub Exists : List Lvl → Seg → ℕ → Deliveries → Place → Type 0
 Exists ls g buckets D x = (x.0 < buckets) × There ls g (D x.0) x.1
 
 abbrev pub All : (Place → Type 0) → List Place → Type 0
-All P [] = Unit {0}
-All P (x ∷ xs) = P x × All P xs
+All P xs = AllByRecursion P xs
 
 abbrev pub Distinct : List Place → Type 0
 Distinct [] = Unit {0}

@@ -24,6 +24,7 @@ use segments::segment::Segment;
 /// they are handed over to that level. All other calls go to the level.
 ///
 /// It means, for each bucket, the documents that wait for it, in waiting order; the order between buckets is left open.
+// The segment, the limits and the slots are lent one by one, as to a level.
 pub trait SubAggCache {
     /// What is asked of the level below.
     type Request;
@@ -82,6 +83,7 @@ pub trait SubAggCache {
 
     /// Lets a pair wait behind the others of its bucket; false, and unaltered, where it is full or the bucket is not below
     /// 512.
+    // A bool, as the `insert` of a set: it says whether the pair went in.
     fn push(&mut self, bucket: u32, doc: u32) -> bool
         ensures answer { (bucket < 512 → result ≡ not (full self.old)) × (512 ≤ bucket → result ≡ false) }
         ensures after { Pushed result (waiting self.old) (pending self.old) (waiting self.new) (pending self.new) bucket doc }

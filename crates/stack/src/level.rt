@@ -1,6 +1,6 @@
 //! The interface of a level.
-ghost use Rattle.std.specs.Prelude.{◌≡◌, ℕ, ◌+◌, ◌^◌, ◌<◌, ◌≤◌, List, [], map, length, None, Option, MatchOption, MatchResult};
-ghost use Rattle.std.specs.List.{slice_get};
+ghost use Rattle.std.specs.Prelude.{◌≡◌, ◌==◌, ℕ, ◌+◌, ◌^◌, ◌<◌, ◌≤◌, List, [], map, length, None, Option, MatchOption, MatchResult};
+ghost use Rattle.std.specs.List.{slice_get, prefix_len};
 ghost use Rattle.records.specs.Faults.{Answers};
 ghost use Rattle.records.specs.declared.column_type.ColumnType.{ColumnType};
 ghost use Rattle.records.specs.declared.fault.Fault.{Fault};
@@ -25,6 +25,8 @@ use segments::segment::Segment;
 ///
 /// Its state means the documents delivered for each bucket so far, in order, those that still wait in a cache included.
 /// The slots are the tallies of the last level's rows; they are lent with each call and always the same.
+// The segment, the limits and the slots are lent one by one: of a struct that holds the two `&mut`, each clause would have to
+// say in addition that they stay the same borrows.
 pub trait SegmentAggregationCollector {
     /// What is asked of this level and of those below it.
     type Request;
@@ -100,6 +102,7 @@ pub trait SegmentAggregationCollector {
             (Inside (paired bucket_ids.now docs.now)) (λ D. all_added D (paired bucket_ids.now docs.now)) }
     {
         let pairs = bucket_ids.len().min(docs.len());
+        // By index: a run's documents are lent where they stand, as the part of their slice beside the run.
         let mut start = 0;
         while start < pairs {
             let end = run_end(bucket_ids, start, pairs);
@@ -174,12 +177,12 @@ fn run_end(bucket_ids: &[u32], start: usize, pairs: usize) -> usize
     requires pairs_in_bounds { pairs ≤ length bucket_ids.now }
     ensures { Run bucket_ids.now start pairs result }
 {
-    let mut end = start + 1;
-    while end < pairs {
-        if bucket_ids[end] != bucket_ids[start] {
-            return end;
-        }
-        end += 1;
-    }
-    end
+    start + run_len(&bucket_ids[start..pairs], bucket_ids[start])
+}
+
+/// How many of the numbers come before the first that differs from this one.
+fn run_len(bucket_ids: &[u32], bucket: u32) -> usize
+    ensures { result ≡ prefix_len (λ b. b == bucket) bucket_ids.now }
+{
+    bucket_ids.iter().take_while(|b| **b == bucket).count()
 }

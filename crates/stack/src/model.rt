@@ -4,15 +4,11 @@ ghost use Rattle.stack.specs.Overruns.{OverrunStays};
 
 /// Readings add up over namings, what a tally is fed composes, a naming counts as the product of how often its steps
 /// occur, and more namings never remove a row.
-pub fn readings_stand() -> u8
+pub fn readings_stand()
     ensures { ReadingLaws }
-{
-    0
-}
+{}
 
 /// More deliveries never undo an overrun.
-pub fn overruns_stand() -> u8
+pub fn overruns_stand()
     ensures { OverrunStays }
-{
-    0
-}
+{}

@@ -1,8 +1,8 @@
--- The slots before `at` are empty.
+-- The slots before the next are empty.
 use Rattle.std.proofs.Common.{◌≡◌, ℕ, ◌<◌, get_or}
 use Rattle.bottom.proofs.metric_collector.SegmentMetricCollectorSegmentAggregationCollector.reset.Given as goal
 
-abbrev pub invariant-loop-at : goal.invariant-loop-at
-invariant-loop-at g l =
+abbrev pub invariant-loop-slot : goal.invariant-loop-slot
+invariant-loop-slot g l =
     let t = g.T.Tally in
-    (k : ℕ) (d : _) → k < l.at → t.worth (get_or l.slots k d) ≡ t.nothing
+    (k : ℕ) (d : _) → k < l.slot-index → t.worth (get_or l.slots k d) ≡ t.nothing
