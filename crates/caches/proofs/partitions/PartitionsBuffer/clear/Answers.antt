@@ -1,9 +1,23 @@
-use Rattle.std.proofs.Common.{ℕ, arith}
-use Rattle.std.proofs.lemmas.List.{length-replicate}
-use Rattle.caches.specs.Groups.{none_total, none_there}
+use Rattle.std.proofs.Common.{◌≡◌, ℕ, ◌+◌, ◌<◌, Some, slice_get, ◌∙◌, arith}
+use Rattle.std.proofs.lemmas.List.{length-set}
+use Rattle.std.proofs.lemmas.Option.{slice_get_within}
+use Rattle.caches.specs.declared.pairs.Pairs.{Pairs}
+use Rattle.caches.specs.Groups.{group_none, home_none, at_set}
 use Rattle.caches.proofs.partitions.PartitionsBuffer.clear.Goals as goal
 
 pub invariant_of-self : goal.invariant_of-self
 invariant_of-self c =
-    let p = c.args.self.now in
-    record { few = omega arith; total = none_total; low = (λ g k h. absurd (none_there p.bucket_ids g k h)); home = (λ g k h. absurd (none_there p.bucket_ids g k h)); whole = p.whole; beside = p.beside; sixteen = length-replicate {A = ℕ} 16 0 }
+    let ps = c.loop-partition.partition-items in
+    let i = c.loop-partition.invariant in
+    let none : (g : ℕ) (p : Pairs) → slice_get ps g ≡ Some p → p.len ≡ 0 = λ g p h. i.1 g p h (omega (arith, slice_get_within ps g p h, i.0, c.loop-partition-test.false)) in
+    record { few = omega arith; total = group_none ps none; home = home_none ps none; sixteen = i.0 }
+
+pub loop-partition-preserved : goal.loop-partition-preserved
+loop-partition-preserved c =
+    let ps = c.loop-partition.partition-items in
+    let n = c.loop-partition.partition-index in
+    let q = c.clear.new.self in
+    let i = c.loop-partition.invariant in (
+      length-set ps n q ∙ i.0,
+      at_set (λ g p. g < n + 1 → p.len ≡ 0) ps n q (λ l. c.clear.ensures) (λ g p other h l. i.1 g p h (omega (arith, l, other))),
+    )

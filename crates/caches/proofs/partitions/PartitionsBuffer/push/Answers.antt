@@ -1,52 +1,94 @@
-use Rattle.std.proofs.Common.{◌≡◌, ℕ, ◌+◌, ◌*◌, ◌%◌, ◌<◌, ◌≤◌, not, get_or, sym, refl, ap, ◌∙◌, arith}
+use Rattle.std.proofs.Common.{◌≡◌, ℕ, ◌+◌, ◌%◌, ◌<◌, ◌≤◌, not, List, [], ◌∷◌, length, get_or, slice_get, slice_set, Some, sym, refl, ap, ◌∙◌, subst, arith}
 use Rattle.std.proofs.lemmas.Nat.{mod_below}
 use Rattle.std.proofs.lemmas.List.{length-set}
+use Rattle.std.proofs.lemmas.Option.{slice_get-get_or}
 use Rattle.std.proofs.lemmas.Bool.{ne_eqb, true≢false}
-use Rattle.caches.specs.declared.partitions.Partitions.{Partitions}
-use Rattle.caches.specs.Groups.{each_few, lens-total, all_push, group-push}
+use Rattle.stack.specs.Overruns.{added}
+use Rattle.caches.specs.declared.pairs.Pairs.{Pairs}
+use Rattle.caches.specs.Grouping.{group_waits, group_len, AllHome}
+use Rattle.caches.specs.Groups.{part_few, len_set, home-push, group-push, home-kept, group-kept}
 use Rattle.caches.proofs.partitions.PartitionsBuffer.push.Goals as goal
 
-each : (p : Partitions) (k : ℕ) → get_or p.lens k 0 ≤ 2048
-each p k = omega (arith, each_few p.lens p.len p.sixteen p.total k, p.few)
-
--- while there is room for a pair, there is in every partition
-room : (p : Partitions) (b : ℕ) → (p.len ≡ 2048 → ⊥) → (get_or p.lens (b % 16) 0 < 2048) × (b % 16 < 16)
-room p b n = (omega (arith, each_few p.lens p.len p.sixteen p.total (b % 16), p.few, n), mod_below b 16 (omega arith))
-
-pub overflow_add-at : goal.overflow_add-at
-overflow_add-at c = let r = room c.args.self.now c.args.bucket c.if-self-eq2048.false in omega (arith, r)
-
-pub offset_bounds-self-at : goal.offset_bounds-self-at
-offset_bounds-self-at c = let r = room c.args.self.now c.args.bucket c.if-self-eq2048.false in omega (arith, r)
-
-pub bounds-self-at : goal.bounds-self-at
-bounds-self-at c = let r = room c.args.self.now c.args.bucket c.if-self-eq2048.false in omega (arith, r)
-
-pub offset_bounds-self-at-2 : goal.offset_bounds-self-at-2
-offset_bounds-self-at-2 c = let r = room c.args.self.now c.args.bucket c.if-self-eq2048.false in omega (arith, r)
-
-pub bounds-self-at-2 : goal.bounds-self-at-2
-bounds-self-at-2 c = let r = room c.args.self.now c.args.bucket c.if-self-eq2048.false in omega (arith, r)
-
-pub overflow_add-self : goal.overflow_add-self
-overflow_add-self c = let r = room c.args.self.now c.args.bucket c.if-self-eq2048.false in omega (arith, r)
+-- the partition of a bucket
+there : (ps qs : List Pairs) (b : ℕ) (d : Pairs) → qs ≡ ps → length ps ≡ 16 → slice_get qs (b % 16) ≡ Some (get_or qs (b % 16) d)
+there ps qs b d e long = slice_get-get_or qs (b % 16) d (omega (arith, ap length e, long, mod_below b 16 (omega arith)))
 
 pub invariant_of-self : goal.invariant_of-self
 invariant_of-self c =
-    let p = c.args.self.now in
+    let self = c.args.self.now in
     let b = c.args.bucket in
-    let r = room p b c.if-self-eq2048.false in
-    let g = b % 16 in
-    let at = g * 2048 + get_or p.lens g 0 in record { few = omega (arith, p.few, c.if-self-eq2048.false); total = lens-total p.lens g r.1 p.sixteen (each p) r.0 p.len p.total; low = all_push p.lens g r.1 p.sixteen (each p) r.0 (λ k v. v < 512) p.bucket_ids b p.whole c.if-bucket-ge512.false p.low; home = all_push p.lens g r.1 p.sixteen (each p) r.0 (λ k v. v % 16 ≡ k) p.bucket_ids b p.whole refl p.home; whole = length-set p.bucket_ids at b ∙ p.whole; beside = length-set p.docs at c.args.doc ∙ p.beside; sixteen = length-set p.lens g (get_or p.lens g 0 + 1) ∙ p.sixteen }
+    let ps = c.as_mut_slice-partitions.result.now in
+    let p = get_or ps (b % 16) c.index-partitions-bucket.result in
+    let q = c.push.new.self in
+    let value = c.as_mut_slice-partitions.ensures.value in
+    let is-there = there self.partitions ps b c.index-partitions-bucket.result value self.sixteen in
+    let kept = c.push.ensures.after.unaltered c.if-not-push.true in
+    record {
+      few = self.few;
+      total = omega (arith, len_set ps (b % 16) p q is-there, kept.1, ap group_len value, self.total);
+      home = home-kept ps (b % 16) p q is-there kept.0 (subst AllHome (sym value) self.home);
+      sixteen = length-set ps (b % 16) q ∙ ap length value ∙ self.sixteen;
+    }
+
+pub returns-then-not-push-clause-answer : goal.returns-then-not-push-clause-answer
+returns-then-not-push-clause-answer c =
+    let self = c.args.self.now in
+    let b = c.args.bucket in
+    let ps = c.as_mut_slice-partitions.result.now in
+    let p = get_or ps (b % 16) c.index-partitions-bucket.result in
+    let value = c.as_mut_slice-partitions.ensures.value in
+    let is-there = there self.partitions ps b c.index-partitions-bucket.result value self.sixteen in
+    let full : (◌≡◌ {A = ℕ} p.len 2048) → ⊥ = λ e. omega (arith, e, part_few ps (b % 16) p is-there, ap group_len value, self.total, self.few, c.if-self-eq2048.false) in
+    (λ h. absurd (true≢false (ap not (sym (ne_eqb p.len 2048 full)) ∙ sym (c.push.ensures.answer.0 h) ∙ c.if-not-push.true)), λ h. refl)
+
+pub returns-then-not-push-clause-after : goal.returns-then-not-push-clause-after
+returns-then-not-push-clause-after c =
+    let self = c.args.self.now in
+    let b = c.args.bucket in
+    let ps = c.as_mut_slice-partitions.result.now in
+    let p = get_or ps (b % 16) c.index-partitions-bucket.result in
+    let q = c.push.new.self in
+    let value = c.as_mut_slice-partitions.ensures.value in
+    let is-there = there self.partitions ps b c.index-partitions-bucket.result value self.sixteen in
+    let kept = c.push.ensures.after.unaltered c.if-not-push.true in
+    record {
+      waits = λ e. absurd (true≢false (sym e));
+      one_more = λ e. absurd (true≢false (sym e));
+      unaltered = λ e. (group-kept ps (b % 16) p q is-there kept.0 ∙ ap group_waits value, refl);
+    }
+
+pub invariant_of-self-2 : goal.invariant_of-self-2
+invariant_of-self-2 c =
+    let self = c.args.self.now in
+    let b = c.args.bucket in
+    let ps = c.as_mut_slice-partitions.result.now in
+    let p = get_or ps (b % 16) c.index-partitions-bucket.result in
+    let q = c.push.new.self in
+    let value = c.as_mut_slice-partitions.ensures.value in
+    let is-there = there self.partitions ps b c.index-partitions-bucket.result value self.sixteen in
+    let taken = c.if-not-push.false in
+    record {
+      few = omega (arith, self.few, c.if-self-eq2048.false);
+      total = omega (arith, len_set ps (b % 16) p q is-there, c.push.ensures.after.one_more taken, ap group_len value, self.total);
+      home = home-push ps b c.args.doc p q is-there (subst AllHome (sym value) self.home) (c.push.ensures.after.waits taken);
+      sixteen = length-set ps (b % 16) q ∙ ap length value ∙ self.sixteen;
+    }
 
 pub returns : goal.returns
 returns c =
-    let p = c.args.self.now in
+    let self = c.args.self.now in
     let b = c.args.bucket in
+    let ps = c.as_mut_slice-partitions.result.now in
+    let p = get_or ps (b % 16) c.index-partitions-bucket.result in
+    let q = c.push.new.self in
+    let value = c.as_mut_slice-partitions.ensures.value in
+    let is-there = there self.partitions ps b c.index-partitions-bucket.result value self.sixteen in
+    let taken = c.if-not-push.false in
     record {
-      answer = (λ h. ap not (sym (ne_eqb p.len 2048 c.if-self-eq2048.false)), λ h. absurd (omega (arith, c.if-bucket-ge512.false)));
+      answer = (λ h. ap not (sym (ne_eqb self.len 2048 c.if-self-eq2048.false)), λ h. sym taken ∙ c.push.ensures.answer.1 h);
       after = record {
-        waits = λ e. group-push p.bucket_ids p.docs p.lens b c.args.doc p.sixteen (each p) (room p b c.if-self-eq2048.false).0 p.whole p.beside;
+        waits = λ e. subst (λ (rs : List Pairs). group_waits (slice_set ps (b % 16) q) ≡ added (group_waits rs) b (c.args.doc ∷ [])) value
+            (group-push ps b c.args.doc p q is-there (subst AllHome (sym value) self.home) (c.push.ensures.after.waits taken));
         one_more = λ e. refl;
         unaltered = λ e. absurd (true≢false e);
       };
