@@ -1,12 +1,18 @@
 //! Where the pairs of a cache wait.
-ghost use Rattle.std.specs.Prelude.{◌≡◌, ℕ, ◌<◌, ◌≤◌, true, false, not, [], ◌∷◌, length, MatchResult, ◌==◌};
+ghost use Rattle.std.specs.Prelude.{◌≡◌, ℕ, ◌<◌, ◌≤◌, true, false, not, [], ◌∷◌, length, ◌==◌};
 ghost use Rattle.stack.specs.Overruns.{Deliveries, added, all_added};
-ghost use Rattle.stack.specs.Calls.{Went, Overran, Waits, Inside, Pushed};
+ghost use Rattle.stack.specs.Calls.{Handled, Waits, Inside, Pushed};
 
 use limits::agg_limits::AggregationLimits;
 use records::fault::Fault;
 use segments::segment::Segment;
 use stack::level::SegmentAggregationCollector;
+
+/// How many pairs a buffer has room for.
+pub(crate) const CAPACITY: usize = 2048;
+
+/// How many buckets there may be: the bucket of a pair is below it.
+pub(crate) const BUCKETS: usize = 512;
 
 /// At most 2,048 pairs of a bucket number below 512 and a document, which wait for a level.
 pub trait Buffer {
@@ -42,9 +48,9 @@ pub trait Buffer {
         limits: &mut AggregationLimits,
         slots: &mut [L::Fruit],
     ) -> Result<(), Fault>
-        ensures { MatchResult result
-            (λ _. Went (L.SegmentAggregationCollector.holds below.old slots.old (S.Segment.means seg.now)) (L.SegmentAggregationCollector.holds below.new slots.new (S.Segment.means seg.now)) (Inside (waiting self.now)) (λ D. all_added D (waiting self.now)) (L.SegmentAggregationCollector.plan below.old) (L.SegmentAggregationCollector.plan below.new) limits.old limits.new (L.SegmentAggregationCollector.made below.old) (L.SegmentAggregationCollector.made below.new))
-            (λ f. Overran 1 (L.SegmentAggregationCollector.plan below.old) (length slots.old) (S.Segment.means seg.now) (L.SegmentAggregationCollector.holds below.old slots.old (S.Segment.means seg.now)) (Inside (waiting self.now)) (λ D. all_added D (waiting self.now)) limits.old limits.new (L.SegmentAggregationCollector.made below.old) (L.SegmentAggregationCollector.made below.new) f) };
+        ensures { Handled result L.SegmentAggregationCollector.holds L.SegmentAggregationCollector.plan L.SegmentAggregationCollector.made (S.Segment.means seg.now)
+            (below.old, slots.old, limits.old) (below.new, slots.new, limits.new)
+            (Inside (waiting self.now)) (λ D. all_added D (waiting self.now)) };
 
     /// Some list of pairs has these parts.
     ghost waits: { (b : Self) → Waits (waiting b) (pending b) };

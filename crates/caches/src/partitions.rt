@@ -1,22 +1,24 @@
 //! The pairs that wait, in 16 partitions.
-ghost use Rattle.std.specs.Prelude.{◌≡◌, ℕ, ◌+◌, ◌<◌, ◌≤◌, true, false, not, [], ◌∷◌, length, MatchResult, ◌==◌};
+ghost use Rattle.std.specs.Prelude.{◌≡◌, ℕ, ◌+◌, ◌<◌, ◌≤◌, true, false, not, [], ◌∷◌, length, ◌==◌};
 ghost use Rattle.stack.specs.Overruns.{Deliveries, all_added};
-ghost use Rattle.stack.specs.Calls.{Went, Overran, Inside, Pushed};
+ghost use Rattle.stack.specs.Calls.{Handled, Inside, Pushed};
 ghost use Rattle.caches.specs.Grouping.{group_waits, group_len, AllHome};
 ghost use Rattle.caches.specs.Groups.{group_record};
 
-use crate::buffer::Buffer;
+use crate::buffer::{Buffer, CAPACITY};
 use crate::pairs::Pairs;
 use limits::agg_limits::AggregationLimits;
 use records::fault::Fault;
 use segments::segment::Segment;
 use stack::level::SegmentAggregationCollector;
 
+const PARTITIONS: usize = 16;
+
 /// At most 2,048 pairs of a bucket number below 512 and a document, in 16 partitions by bucket number modulo 16, and in
 /// each in the order in which they came. Any partition has room for all of them.
 #[derive(Clone, Copy)]
 pub struct Partitions {
-    partitions: [Pairs; 16],
+    partitions: [Pairs; PARTITIONS],
     len: usize,
     ghost few: { len ≤ 2048 },
     ghost total: { group_len partitions ≡ len },
@@ -31,22 +33,22 @@ impl Buffer for Partitions {
 
     fn new() -> Partitions {
         Partitions {
-            partitions: [Pairs::new(); 16],
+            partitions: [Pairs::new(); PARTITIONS],
             len: 0,
         }
     }
 
     fn is_full(&self) -> bool {
-        self.len == 2048
+        self.len == CAPACITY
     }
 
     fn push(&mut self, bucket: u32, doc: u32) -> bool {
-        if self.len == 2048 {
+        if self.len == CAPACITY {
             return false;
         }
         // As a slice: the prover does not lend out an element of an array that a struct with invariants holds.
         let partitions = self.partitions.as_mut_slice();
-        if !partitions[(bucket % 16) as usize].push(bucket, doc) {
+        if !partitions[bucket as usize % PARTITIONS].push(bucket, doc) {
             return false;
         }
         self.len += 1;

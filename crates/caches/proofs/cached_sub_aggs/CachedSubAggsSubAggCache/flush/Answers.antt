@@ -19,8 +19,7 @@ returns g c =
           (level.holds was.below c.args.slots.now seg) (level.holds half.self.below half.slots seg) (level.plan was.below) (level.plan half.self.below)
           c.args.limits.now half.limits end.limits (level.made was.below) (level.made half.self.below) (level.made end.self)
           c.in_ok-hand_over.ensures.0 (level.holds end.self end.slots seg) (level.plan end.self) w.0,
-      c.in_ok-hand_over.ensures.1,
-      w.1,
+      (c.in_ok-hand_over.ensures.1, w.1),
     ))
     (λ f o. overran-on (g.B.Buffer.waiting was.buffer)
     (level.holds was.below c.args.slots.now seg) (level.holds half.self.below half.slots seg) (level.plan was.below) (level.plan half.self.below)

@@ -38,7 +38,7 @@ returns-then-not-push-clause-answer c =
     let p = get_or ps (b % 16) c.index-partitions-bucket.result in
     let value = c.as_mut_slice-partitions.ensures.value in
     let is-there = there self.partitions ps b c.index-partitions-bucket.result value self.sixteen in
-    let full : (◌≡◌ {A = ℕ} p.len 2048) → ⊥ = λ e. omega (arith, e, part_few ps (b % 16) p is-there, ap group_len value, self.total, self.few, c.if-self-eq2048.false) in
+    let full : (◌≡◌ {A = ℕ} p.len 2048) → ⊥ = λ e. omega (arith, e, part_few ps (b % 16) p is-there, ap group_len value, self.total, self.few, c.if-self-eq-CAPACITY.false) in
     (λ h. absurd (true≢false (ap not (sym (ne_eqb p.len 2048 full)) ∙ sym (c.push.ensures.answer.0 h) ∙ c.if-not-push.true)), λ h. refl)
 
 pub returns-then-not-push-clause-after : goal.returns-then-not-push-clause-after
@@ -68,7 +68,7 @@ invariant_of-self-2 c =
     let is-there = there self.partitions ps b c.index-partitions-bucket.result value self.sixteen in
     let taken = c.if-not-push.false in
     record {
-      few = omega (arith, self.few, c.if-self-eq2048.false);
+      few = omega (arith, self.few, c.if-self-eq-CAPACITY.false);
       total = omega (arith, len_set ps (b % 16) p q is-there, c.push.ensures.after.one_more taken, ap group_len value, self.total);
       home = home-push ps b c.args.doc p q is-there (subst AllHome (sym value) self.home) (c.push.ensures.after.waits taken);
       sixteen = length-set ps (b % 16) q ∙ ap length value ∙ self.sixteen;
@@ -85,7 +85,7 @@ returns c =
     let is-there = there self.partitions ps b c.index-partitions-bucket.result value self.sixteen in
     let taken = c.if-not-push.false in
     record {
-      answer = (λ h. ap not (sym (ne_eqb self.len 2048 c.if-self-eq2048.false)), λ h. sym taken ∙ c.push.ensures.answer.1 h);
+      answer = (λ h. ap not (sym (ne_eqb self.len 2048 c.if-self-eq-CAPACITY.false)), λ h. sym taken ∙ c.push.ensures.answer.1 h);
       after = record {
         waits = λ e. subst (λ (rs : List Pairs). group_waits (slice_set ps (b % 16) q) ≡ added (group_waits rs) b (c.args.doc ∷ [])) value
             (group-push ps b c.args.doc p q is-there (subst AllHome (sym value) self.home) (c.push.ensures.after.waits taken));
