@@ -5,13 +5,8 @@ use Rattle.std.proofs.Math.Path.{fun_ext}
 use Rattle.std.proofs.lemmas.Bool.{cases_eq, cond-true, cond-false, eq-eqb, ne_eqb}
 use Rattle.std.proofs.lemmas.List.{append-nil, append_assoc, length-append, length-take, length-set, nil_from_length, get_or-set_same, get_or-set_other, get_or-replicate, length-replicate}
 use Rattle.std.proofs.lemmas.Option.{slice_get_within, slice_get_read, get_or_from_slice_get}
-use Rattle.limits.specs.declared.agg_limits.AggregationLimits.{AggregationLimits}
-use Rattle.records.specs.declared.fault.Fault.{Fault}
-use Rattle.segments.specs.Segments.{Seg}
-use Rattle.stack.specs.Levels.{Plan}
-use Rattle.stack.specs.Overruns.{Deliveries, added, all_added, More}
-use Rattle.stack.specs.Calls.{docs_for, Waits, Went, Overran, Inside}
-use Rattle.stack.proofs.Chaining.{went_none, went_then, went_overran}
+use Rattle.stack.specs.Overruns.{added}
+use Rattle.stack.specs.Calls.{docs_for, Waits, Inside}
 use Rattle.caches.specs.declared.pairs.Pairs.{Pairs}
 use Rattle.caches.specs.Grouping.{part_waits, group_waits, group_len, AllHome}
 use Rattle.caches.specs.Waits.{docs_append, waits_low, low_take}
@@ -176,9 +171,9 @@ first_rest (suc n) [] b = refl
 first_rest (suc n) (p ∷ ps) b =
     ap (λ (xs : List ℕ). part_waits p b ++ xs) (first_rest n ps b) ∙ sym (append_assoc (part_waits p b) (group_waits (take n ps) b) (group_waits (drop n ps) b))
 
-pub none_first : (ps : List Pairs) → group_waits (take 0 ps) ≡ (λ b. [])
+pub none_first : (ps : List Pairs) (b : ℕ) → group_waits (take 0 ps) b ≡ []
 unfolding group_waits
-none_first ps = refl
+none_first ps b = refl
 
 part-short : (ps : List Pairs) (n : ℕ) (p : Pairs) → slice_get ps n ≡ Some p → (b : ℕ) → length (part_waits p b) ≤ length (group_waits ps b)
 unfolding group_waits
@@ -188,32 +183,6 @@ part-short (q ∷ ps) zero p e b =
     omega (arith, length-append (part_waits q b) (group_waits ps b), ap (λ (r : Pairs). length (part_waits r b)) z)
 part-short (q ∷ ps) (suc n) p e b = omega (arith, length-append (part_waits q b) (group_waits ps b), part-short ps n p e b)
 
--- a call delivers the partition numbered n
-module _ (ps : List Pairs) (n : ℕ) (part : Pairs) (there : slice_get ps n ≡ Some part) (W : Deliveries) (is : W ≡ part_waits part)
-    (A B : (n buckets : ℕ) → Deliveries → Type 0) (p q : Plan) (a b c : AggregationLimits) (k m o : ℕ)
-    (so_far : Went A B (Inside (group_waits ps)) (λ D. all_added D (group_waits (take n ps))) p q a b k m) where
-  within-part : (buckets : ℕ) → Inside (group_waits ps) buckets → Inside W buckets
-  within-part buckets i x h = (λ j. is j x) ∙ nil_from_length (part_waits part x) (omega (arith, part-short ps n part there x, ap length (i x h)))
-
-  grows-part : (D : Deliveries) (x : ℕ) → all_added (all_added D (group_waits (take n ps))) W x ≡ all_added D (group_waits (take (n + 1) ps)) x
-  grows-part D x =
-      append_assoc (D x) (group_waits (take n ps) x) (W x)
-      ∙ ap (λ (xs : List ℕ). D x ++ xs) (ap (λ (xs : List ℕ). group_waits (take n ps) x ++ xs) (λ j. is j x) ∙ sym (first_more ps n part there x))
-
-  pub went-part : (C : (n buckets : ℕ) → Deliveries → Type 0) (r : Plan) → Went B C (Inside W) (λ D. all_added D W) q r b c m o → Went A C (Inside (group_waits ps)) (λ D. all_added D (group_waits (take (n + 1) ps))) p r a c k o
-  went-part C r next = went_then A B C (Inside (group_waits ps)) (Inside W) (Inside (group_waits ps)) (λ D. all_added D (group_waits (take n ps))) (λ D. all_added D W) (λ D. all_added D (group_waits (take (n + 1) ps))) p q r a b c k m o
-      (λ x i. i) within-part (λ D. fun_ext (grows-part D)) so_far next
-
-  pub overran-there : (slots : ℕ) (g : Seg) (f : Fault) → Overran 1 q slots g B (Inside W) (λ D. all_added D W) b c m o f → Overran 1 p slots g A (Inside (group_waits ps)) (λ D. all_added D (group_waits ps)) a c k o f
-  overran-there slots g f next = went_overran 1 slots g A B (Inside (group_waits ps)) (Inside W) (Inside (group_waits ps)) (λ D. all_added D (group_waits (take n ps))) (λ D. all_added D W) (λ D. all_added D (group_waits ps)) p q a b c k m o f
-      (λ x i. i) within-part (λ D. record {
-        rest = group_waits (drop (n + 1) ps);
-        is = λ x.
-            ap (λ (xs : List ℕ). D x ++ xs) (first_rest (n + 1) ps x)
-            ∙ sym (append_assoc (D x) (group_waits (take (n + 1) ps) x) (group_waits (drop (n + 1) ps) x))
-            ∙ ap (λ (xs : List ℕ). xs ++ group_waits (drop (n + 1) ps) x) (sym (grows-part D x));
-      }) so_far next
-
--- nothing is delivered yet
-pub went_first : (ps : List Pairs) (A : (n buckets : ℕ) → Deliveries → Type 0) (p : Plan) (a : AggregationLimits) (m : ℕ) → Went A A (Inside (group_waits ps)) (λ D. all_added D (group_waits (take 0 ps))) p p a a m m
-went_first ps A p a m = went_none A (Inside (group_waits ps)) (λ D. all_added D (group_waits (take 0 ps))) p a m (λ D. ap (all_added D) (none_first ps) ∙ fun_ext (λ x. append-nil (D x)))
+-- what one of them delivers is for buckets below those of all
+pub part_inside : (ps : List Pairs) (n : ℕ) (p : Pairs) → slice_get ps n ≡ Some p → (buckets : ℕ) → Inside (group_waits ps) buckets → Inside (part_waits p) buckets
+part_inside ps n p e buckets i b h = nil_from_length (part_waits p b) (omega (arith, part-short ps n p e b, ap length (i b h)))

@@ -1,6 +1,5 @@
-use Rattle.std.proofs.Common.{length}
-use Rattle.std.proofs.lemmas.Result.{err_from_is_err_and, MatchResult-weaker}
-use Rattle.caches.specs.Parts.{went_on, overran-on}
+use Rattle.std.proofs.lemmas.Result.{err_from_is_err_and}
+use Rattle.caches.specs.Parts.{handled-on}
 use Rattle.caches.proofs.cached_sub_aggs.CachedSubAggsSubAggCache.flush.Goals as goal
 
 pub returns-in_err-hand_over : goal.returns-in_err-hand_over
@@ -9,19 +8,9 @@ returns-in_err-hand_over g c = let q = err_from_is_err_and c.from_residual.resul
 pub returns : goal.returns
 returns g c =
     let level = g.L.SegmentAggregationCollector in
-    let seg = g.S.Segment.means c.args.seg.now in
     let was = c.args.self.now in
     let half = c.hand_over.new in
     let end = c.flush.new in
-    MatchResult-weaker c.flush.result c.flush.ensures
-    (λ x w. (
-      went_on (g.B.Buffer.waiting was.buffer)
-          (level.holds was.below c.args.slots.now seg) (level.holds half.self.below half.slots seg) (level.plan was.below) (level.plan half.self.below)
-          c.args.limits.now half.limits end.limits (level.made was.below) (level.made half.self.below) (level.made end.self)
-          c.in_ok-hand_over.ensures.0 (level.holds end.self end.slots seg) (level.plan end.self) w.0,
-      (c.in_ok-hand_over.ensures.1, w.1),
-    ))
-    (λ f o. overran-on (g.B.Buffer.waiting was.buffer)
-    (level.holds was.below c.args.slots.now seg) (level.holds half.self.below half.slots seg) (level.plan was.below) (level.plan half.self.below)
-    c.args.limits.now half.limits end.limits (level.made was.below) (level.made half.self.below) (level.made end.self)
-    c.in_ok-hand_over.ensures.0 (length half.slots) (length c.args.slots.now) seg f c.hand_over.auto.slots o)
+    handled-on level.holds level.plan level.made (g.S.Segment.means c.args.seg.now)
+    (was.below, c.args.slots.now, c.args.limits.now) (half.self.below, half.slots, half.limits) (g.B.Buffer.waiting was.buffer)
+    c.in_ok-hand_over.ensures.0 c.hand_over.auto.slots (end.self, end.slots, end.limits) c.flush.result (λ settled. (c.in_ok-hand_over.ensures.1, settled)) c.flush.ensures
