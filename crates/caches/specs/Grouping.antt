@@ -1,5 +1,5 @@
 -- Pairs in partitions, by bucket number modulo 16.
-use Rattle.std.specs.Prelude.{◌≡◌, ℕ, ◌+◌, ◌%◌, ◌≢◌, List, [], ◌∷◌, ◌++◌, Some, slice_get}
+use Rattle.std.specs.Prelude.{◌≡◌, ℕ, ◌%◌, ◌≢◌, List, [], flat_map, sum_by, Some, slice_get}
 use Rattle.stack.specs.Overruns.{Deliveries}
 use Rattle.caches.specs.declared.pairs.Pairs.{Pairs}
 use Rattle.caches.specs.Waiting.{waits_in}
@@ -10,13 +10,11 @@ part_waits p = waits_in p.bucket_ids p.docs p.len
 
 -- the documents that wait for each bucket, partition after partition
 unfoldable pub group_waits : List Pairs → Deliveries
-group_waits [] b = []
-group_waits (p ∷ ps) b = part_waits p b ++ group_waits ps b
+group_waits ps b = flat_map (λ p. part_waits p b) ps
 
 -- how many pairs wait in all
 unfoldable pub group_len : List Pairs → ℕ
-group_len [] = 0
-group_len (p ∷ ps) = p.len + group_len ps
+group_len ps = sum_by (λ p. p.len) ps
 
 -- each partition holds what waits for buckets with its number modulo 16
 abbrev pub AllHome : List Pairs → Type 0

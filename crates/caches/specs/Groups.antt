@@ -1,9 +1,11 @@
 -- Partitions: one that changes, all without pairs, the first of them, and the list of pairs that they are.
-use Rattle.std.specs.Prelude.{◌≡◌, ℕ, zero, suc, ◌+◌, ◌%◌, ◌<◌, ◌≤◌, ◌≢◌, List, [], ◌∷◌, ◌++◌, length, take, drop, replicate, cond, ◌==◌, None, Some, slice_get, slice_set, slice_index_or, refl}
+use Rattle.std.specs.Prelude.{◌≡◌, ℕ, zero, suc, ◌+◌, ◌%◌, ◌<◌, ◌≤◌, ◌≢◌, List, [], ◌∷◌, ◌++◌, length, take, drop, replicate, cond, ◌==◌, None, Some, slice_get, slice_set, slice_index_or, flat_map, sum_by, refl}
 use Rattle.std.proofs.Common.{sym, ap, ◌∙◌, subst, inl, inr, add-one, arith}
 use Rattle.std.proofs.Math.Path.{fun_ext}
 use Rattle.std.proofs.lemmas.Bool.{cases_eq, cond-true, cond-false, eq-eqb, ne_eqb}
-use Rattle.std.proofs.lemmas.List.{append-nil, append_assoc, length-append, length-take, length-set, nil_from_length, get_or-set_same, get_or-set_other, get_or-replicate, length-replicate}
+use Rattle.std.proofs.lemmas.List.{append-nil, append_assoc, length-append, length-take, length-set, nil_from_length, take_more, take-append-drop, get_or-set_same, get_or-set_other, get_or-replicate, length-replicate}
+use Rattle.std.proofs.lemmas.List.Concat.{flat_map-append, length-flat_map}
+use Rattle.std.proofs.lemmas.List.Sums.{sum_by-cons, sum_by-set, get_or-le-sum_by}
 use Rattle.std.proofs.lemmas.Option.{slice_get_within, slice_get_read, get_or_from_slice_get}
 use Rattle.stack.specs.Overruns.{added}
 use Rattle.stack.specs.Calls.{docs_for, Waits, Inside}
@@ -14,25 +16,21 @@ use Rattle.caches.specs.Waits.{docs_append, waits_low, low_take}
 -- ---- the list of pairs that they are
 
 buckets_in : List Pairs → List ℕ
-buckets_in [] = []
-buckets_in (p ∷ ps) = take p.len p.bucket_ids ++ buckets_in ps
+buckets_in ps = flat_map (λ p. take p.len p.bucket_ids) ps
 
 docs_in : List Pairs → List ℕ
-docs_in [] = []
-docs_in (p ∷ ps) = take p.len p.docs ++ docs_in ps
+docs_in ps = flat_map (λ p. take p.len p.docs) ps
 
 part-long : (p : Pairs) → (length (take p.len p.bucket_ids) ≡ p.len) × (length (take p.len p.docs) ≡ p.len)
 part-long p = (omega (arith, length-take p.len p.bucket_ids, p.whole, p.few), omega (arith, length-take p.len p.docs, p.beside, p.few))
 
 long-buckets : (ps : List Pairs) → length (buckets_in ps) ≡ group_len ps
 unfolding buckets_in group_len
-long-buckets [] = refl
-long-buckets (p ∷ ps) = omega (arith, length-append (take p.len p.bucket_ids) (buckets_in ps), (part-long p).0, long-buckets ps)
+long-buckets ps = length-flat_map (λ (p : Pairs). take p.len p.bucket_ids) ps ∙ ap (λ (f : Pairs → ℕ). sum_by f ps) (fun_ext (λ p. (part-long p).0))
 
 long-docs : (ps : List Pairs) → length (docs_in ps) ≡ group_len ps
 unfolding docs_in group_len
-long-docs [] = refl
-long-docs (p ∷ ps) = omega (arith, length-append (take p.len p.docs) (docs_in ps), (part-long p).1, long-docs ps)
+long-docs ps = length-flat_map (λ (p : Pairs). take p.len p.docs) ps ∙ ap (λ (f : Pairs → ℕ). sum_by f ps) (fun_ext (λ p. (part-long p).1))
 
 are-parts : (ps : List Pairs) (b : ℕ) → group_waits ps b ≡ docs_for b (buckets_in ps) (docs_in ps)
 unfolding buckets_in docs_in group_waits
@@ -41,10 +39,13 @@ are-parts (p ∷ ps) b =
     ap (λ (xs : List ℕ). part_waits p b ++ xs) (are-parts ps b)
     ∙ sym (docs_append b (take p.len p.bucket_ids) (buckets_in ps) (take p.len p.docs) (docs_in ps) ((part-long p).0 ∙ sym (part-long p).1))
 
-none-past : (ps : List Pairs) (b : ℕ) → 512 ≤ b → group_waits ps b ≡ []
+none-wait : (ps : List Pairs) (b : ℕ) → ((i : ℕ) (p : Pairs) → slice_get ps i ≡ Some p → part_waits p b ≡ []) → group_waits ps b ≡ []
 unfolding group_waits
-none-past [] b h = refl
-none-past (p ∷ ps) b h = (λ i. waits_low (take p.len p.bucket_ids) (take p.len p.docs) b (low_take p.bucket_ids p.len p.low) h i ++ none-past ps b h i)
+none-wait [] b n = refl
+none-wait (p ∷ ps) b n = (λ i. n 0 p refl i ++ none-wait ps b (λ j r e. n (suc j) r e) i)
+
+none-past : (ps : List Pairs) (b : ℕ) → 512 ≤ b → group_waits ps b ≡ []
+none-past ps b h = none-wait ps b (λ i p e. waits_low (take p.len p.bucket_ids) (take p.len p.docs) b (low_take p.bucket_ids p.len p.low) h)
 
 pub group_record : (ps : List Pairs) (len : ℕ) → len ≤ 2048 → group_len ps ≡ len → Waits (group_waits ps) len
 group_record ps len few total = record {
@@ -62,7 +63,7 @@ group_record ps len few total = record {
 pub group_none : (ps : List Pairs) → ((g : ℕ) (p : Pairs) → slice_get ps g ≡ Some p → p.len ≡ 0) → group_len ps ≡ 0
 unfolding group_len
 group_none [] e = refl
-group_none (p ∷ ps) e = omega (arith, e 0 p refl, group_none ps (λ g q h. e (suc g) q h))
+group_none (p ∷ ps) e = omega (arith, sum_by-cons (λ (q : Pairs). q.len) p ps, e 0 p refl, group_none ps (λ g q h. e (suc g) q h))
 
 pub home_none : (ps : List Pairs) → ((g : ℕ) (p : Pairs) → slice_get ps g ≡ Some p → p.len ≡ 0) → AllHome ps
 home_none ps e g p h b n = ap (λ (l : ℕ). docs_for b (take l p.bucket_ids) (take l p.docs)) (e g p h)
@@ -74,17 +75,17 @@ copies_none n q e g p h =
 
 -- ---- one that changes
 
-pub part_few : (ps : List Pairs) (g : ℕ) (p : Pairs) → slice_get ps g ≡ Some p → p.len ≤ group_len ps
-unfolding group_len
-part_few [] g p e = absurd (let z : ⊥ = cc in z)
-part_few (q ∷ ps) zero p e = let z : q ≡ p = cc in omega (arith, ap (λ (r : Pairs). r.len) z)
-part_few (q ∷ ps) (suc g) p e = omega (arith, part_few ps g p e)
+module _ (ps : List Pairs) (g : ℕ) (p : Pairs) (there : slice_get ps g ≡ Some p) where
+  is-there : slice_index_or ps g p ≡ p
+  is-there = get_or_from_slice_get ps g p p there
 
-pub len_set : (ps : List Pairs) (g : ℕ) (p q : Pairs) → slice_get ps g ≡ Some p → group_len (slice_set ps g q) + p.len ≡ group_len ps + q.len
-unfolding group_len
-len_set [] g p q e = absurd (let z : ⊥ = cc in z)
-len_set (r ∷ ps) zero p q e = let z : r ≡ p = cc in omega (arith, ap (λ (t : Pairs). t.len) z)
-len_set (r ∷ ps) (suc g) p q e = omega (arith, len_set ps g p q e)
+  pub part-few : p.len ≤ group_len ps
+  unfolding group_len
+  part-few = omega (arith, get_or-le-sum_by (λ (q : Pairs). q.len) ps g p (slice_get_within ps g p there), ap (λ (q : Pairs). q.len) is-there)
+
+  pub len-set : (q : Pairs) → group_len (slice_set ps g q) + p.len ≡ group_len ps + q.len
+  unfolding group_len
+  len-set q = omega (arith, sum_by-set (λ (r : Pairs). r.len) ps g q p (slice_get_within ps g p there), ap (λ (r : Pairs). r.len) is-there)
 
 -- what a written list has at a place
 pub at_set : (P : ℕ → Pairs → Type 0) (ps : List Pairs) (g : ℕ) (q : Pairs) → P g q → ((i : ℕ) (r : Pairs) → (i ≢ g) → slice_get ps i ≡ Some r → P i r) → (i : ℕ) (r : Pairs) → slice_get (slice_set ps g q) i ≡ Some r → P i r
@@ -106,11 +107,6 @@ unfolding group_waits
 other-set [] g p q k e s = refl
 other-set (r ∷ ps) zero p q k e s = let z : p ≡ r = cc in ap (λ (xs : List ℕ). xs ++ group_waits ps k) (s ∙ ap (λ (t : Pairs). part_waits t k) z)
 other-set (r ∷ ps) (suc g) p q k e s = ap (λ (xs : List ℕ). part_waits r k ++ xs) (other-set ps g p q k e s)
-
-none-wait : (ps : List Pairs) (b : ℕ) → ((i : ℕ) (r : Pairs) → slice_get ps i ≡ Some r → part_waits r b ≡ []) → group_waits ps b ≡ []
-unfolding group_waits
-none-wait [] b n = refl
-none-wait (p ∷ ps) b n = (λ i. n 0 p refl i ++ none-wait ps b (λ j r e. n (suc j) r e) i)
 
 more-set : (ps : List Pairs) (g : ℕ) (p q : Pairs) (b d : ℕ) → slice_get ps g ≡ Some p → ((i : ℕ) (r : Pairs) → g < i → slice_get ps i ≡ Some r → part_waits r b ≡ []) → part_waits q b ≡ part_waits p b ++ (d ∷ []) → group_waits (slice_set ps g q) b ≡ group_waits ps b ++ (d ∷ [])
 unfolding group_waits
@@ -158,18 +154,13 @@ module _ (ps : List Pairs) (g : ℕ) (p q : Pairs) (there : slice_get ps g ≡ S
 
 pub first_more : (ps : List Pairs) (n : ℕ) (p : Pairs) → slice_get ps n ≡ Some p → (b : ℕ) → group_waits (take (n + 1) ps) b ≡ group_waits (take n ps) b ++ part_waits p b
 unfolding group_waits
-first_more [] n p e b = absurd (let z : ⊥ = cc in z)
-first_more (q ∷ ps) zero p e b = let z : q ≡ p = cc in append-nil (part_waits q b) ∙ ap (λ (r : Pairs). part_waits r b) z
-first_more (q ∷ ps) (suc n) p e b =
-    ap (λ (j : ℕ). group_waits (take j (q ∷ ps)) b) (add-one (suc n)) ∙ ap (λ (j : ℕ). part_waits q b ++ group_waits (take j ps) b) (sym (add-one n))
-    ∙ ap (λ (xs : List ℕ). part_waits q b ++ xs) (first_more ps n p e b) ∙ sym (append_assoc (part_waits q b) (group_waits (take n ps) b) (part_waits p b))
+first_more ps n p there b =
+    ap (λ (qs : List Pairs). group_waits qs b) (take_more ps n p (slice_get_within ps n p there) ∙ ap (λ (q : Pairs). take n ps ++ (q ∷ [])) (is-there ps n p there))
+    ∙ flat_map-append (λ (q : Pairs). part_waits q b) (take n ps) (p ∷ []) ∙ ap (λ (xs : List ℕ). group_waits (take n ps) b ++ xs) (append-nil (part_waits p b))
 
 pub first_rest : (n : ℕ) (ps : List Pairs) (b : ℕ) → group_waits ps b ≡ group_waits (take n ps) b ++ group_waits (drop n ps) b
 unfolding group_waits
-first_rest zero ps b = refl
-first_rest (suc n) [] b = refl
-first_rest (suc n) (p ∷ ps) b =
-    ap (λ (xs : List ℕ). part_waits p b ++ xs) (first_rest n ps b) ∙ sym (append_assoc (part_waits p b) (group_waits (take n ps) b) (group_waits (drop n ps) b))
+first_rest n ps b = sym (ap (λ (qs : List Pairs). group_waits qs b) (take-append-drop n ps)) ∙ flat_map-append (λ (q : Pairs). part_waits q b) (take n ps) (drop n ps)
 
 pub none_first : (ps : List Pairs) (b : ℕ) → group_waits (take 0 ps) b ≡ []
 unfolding group_waits
@@ -177,11 +168,8 @@ none_first ps b = refl
 
 part-short : (ps : List Pairs) (n : ℕ) (p : Pairs) → slice_get ps n ≡ Some p → (b : ℕ) → length (part_waits p b) ≤ length (group_waits ps b)
 unfolding group_waits
-part-short [] n p e b = absurd (let z : ⊥ = cc in z)
-part-short (q ∷ ps) zero p e b =
-    let z : q ≡ p = cc in
-    omega (arith, length-append (part_waits q b) (group_waits ps b), ap (λ (r : Pairs). length (part_waits r b)) z)
-part-short (q ∷ ps) (suc n) p e b = omega (arith, length-append (part_waits q b) (group_waits ps b), part-short ps n p e b)
+part-short ps n p there b =
+    omega (arith, length-flat_map (λ (q : Pairs). part_waits q b) ps, get_or-le-sum_by (λ (q : Pairs). length (part_waits q b)) ps n p (slice_get_within ps n p there), ap (λ (q : Pairs). length (part_waits q b)) (is-there ps n p there))
 
 -- what one of them delivers is for buckets below those of all
 pub part_inside : (ps : List Pairs) (n : ℕ) (p : Pairs) → slice_get ps n ≡ Some p → (buckets : ℕ) → Inside (group_waits ps) buckets → Inside (part_waits p) buckets

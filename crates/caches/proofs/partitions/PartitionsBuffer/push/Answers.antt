@@ -6,7 +6,7 @@ use Rattle.std.proofs.lemmas.Bool.{ne_eqb, true≢false}
 use Rattle.stack.specs.Overruns.{added}
 use Rattle.caches.specs.declared.pairs.Pairs.{Pairs}
 use Rattle.caches.specs.Grouping.{group_waits, group_len, AllHome}
-use Rattle.caches.specs.Groups.{part_few, len_set, home-push, group-push, home-kept, group-kept}
+use Rattle.caches.specs.Groups.{part-few, len-set, home-push, group-push, home-kept, group-kept}
 use Rattle.caches.proofs.partitions.PartitionsBuffer.push.Goals as goal
 
 -- the partition of a bucket
@@ -25,7 +25,7 @@ invariant_of-self c =
     let kept = c.push.ensures.after.unaltered c.if-not-push.true in
     record {
       few = self.few;
-      total = omega (arith, len_set ps (b % 16) p q is-there, kept.1, ap group_len value, self.total);
+      total = omega (arith, len-set ps (b % 16) p is-there q, kept.1, ap group_len value, self.total);
       home = home-kept ps (b % 16) p q is-there kept.0 (subst AllHome (sym value) self.home);
       sixteen = length-set ps (b % 16) q ∙ ap length value ∙ self.sixteen;
     }
@@ -38,7 +38,7 @@ returns-then-not-push-clause-answer c =
     let p = get_or ps (b % 16) c.index-partitions-bucket.result in
     let value = c.as_mut_slice-partitions.ensures.value in
     let is-there = there self.partitions ps b c.index-partitions-bucket.result value self.sixteen in
-    let full : (◌≡◌ {A = ℕ} p.len 2048) → ⊥ = λ e. omega (arith, e, part_few ps (b % 16) p is-there, ap group_len value, self.total, self.few, c.if-self-eq-CAPACITY.false) in
+    let full : (◌≡◌ {A = ℕ} p.len 2048) → ⊥ = λ e. omega (arith, e, part-few ps (b % 16) p is-there, ap group_len value, self.total, self.few, c.if-self-eq-CAPACITY.false) in
     (λ h. absurd (true≢false (ap not (sym (ne_eqb p.len 2048 full)) ∙ sym (c.push.ensures.answer.0 h) ∙ c.if-not-push.true)), λ h. refl)
 
 pub returns-then-not-push-clause-after : goal.returns-then-not-push-clause-after
@@ -69,7 +69,7 @@ invariant_of-self-2 c =
     let taken = c.if-not-push.false in
     record {
       few = omega (arith, self.few, c.if-self-eq-CAPACITY.false);
-      total = omega (arith, len_set ps (b % 16) p q is-there, c.push.ensures.after.one_more taken, ap group_len value, self.total);
+      total = omega (arith, len-set ps (b % 16) p is-there q, c.push.ensures.after.one_more taken, ap group_len value, self.total);
       home = home-push ps b c.args.doc p q is-there (subst AllHome (sym value) self.home) (c.push.ensures.after.waits taken);
       sixteen = length-set ps (b % 16) q ∙ ap length value ∙ self.sixteen;
     }
