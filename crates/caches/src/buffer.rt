@@ -1,6 +1,6 @@
 //! Where the pairs of a cache wait.
-ghost use Rattle.std.specs.Prelude.{◌≡◌, ℕ, ◌<◌, ◌≤◌, true, false, not, [], ◌∷◌, length, ◌==◌};
-ghost use Rattle.stack.specs.Overruns.{Deliveries, added, all_added};
+ghost use Rattle.std.specs.Prelude.{◌≡◌, ℕ, ◌<◌, ◌≤◌, false, not, ◌==◌};
+ghost use Rattle.stack.specs.Overruns.{Deliveries, all_added};
 ghost use Rattle.stack.specs.Calls.{Handled, Waits, Inside, Pushed};
 
 use limits::agg_limits::AggregationLimits;

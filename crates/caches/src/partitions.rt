@@ -1,7 +1,5 @@
 //! The pairs that wait, in 16 partitions.
-ghost use Rattle.std.specs.Prelude.{◌≡◌, ℕ, ◌+◌, ◌<◌, ◌≤◌, true, false, not, [], ◌∷◌, length, ◌==◌};
-ghost use Rattle.stack.specs.Overruns.{Deliveries, all_added};
-ghost use Rattle.stack.specs.Calls.{Handled, Inside, Pushed};
+ghost use Rattle.std.specs.Prelude.{◌≡◌, ◌≤◌, length};
 ghost use Rattle.caches.specs.Grouping.{group_waits, group_len, AllHome};
 ghost use Rattle.caches.specs.Groups.{group_record};
 
@@ -46,7 +44,7 @@ impl Buffer for Partitions {
         if self.len == CAPACITY {
             return false;
         }
-        // As a slice: the prover does not lend out an element of an array that a struct with invariants holds.
+        // As a slice, since the prover does not take a borrowed element of an array that a struct with invariants holds.
         let partitions = self.partitions.as_mut_slice();
         if !partitions[bucket as usize % PARTITIONS].push(bucket, doc) {
             return false;
