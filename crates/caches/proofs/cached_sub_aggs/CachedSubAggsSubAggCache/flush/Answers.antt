@@ -1,9 +1,5 @@
-use Rattle.std.proofs.lemmas.Result.{err_from_is_err_and}
 use Rattle.caches.specs.Parts.{handled-on}
 use Rattle.caches.proofs.cached_sub_aggs.CachedSubAggsSubAggCache.flush.Goals as goal
-
-pub returns-in_err-hand_over : goal.returns-in_err-hand_over
-returns-in_err-hand_over g c = let q = err_from_is_err_and c.from_residual.result c.from_residual.ensures.1 in rw (q.1, q.2) c.in_err-hand_over.ensures
 
 pub returns : goal.returns
 returns g c =

@@ -1,8 +1,7 @@
-use Rattle.std.proofs.Common.{◌≡◌, ℕ, ◌+◌, ◌<◌, Some, slice_get, ◌∙◌, arith}
-use Rattle.std.proofs.lemmas.List.{length-set}
+use Rattle.std.proofs.Common.{◌≡◌, ℕ, Some, slice_get, arith}
 use Rattle.std.proofs.lemmas.Option.{slice_get_within}
 use Rattle.caches.specs.declared.pairs.Pairs.{Pairs}
-use Rattle.caches.specs.Groups.{group_none, home_none, at_set}
+use Rattle.caches.specs.Groups.{group_none, home_none}
 use Rattle.caches.proofs.partitions.PartitionsBuffer.clear.Goals as goal
 
 pub invariant_of-self : goal.invariant_of-self
@@ -11,13 +10,3 @@ invariant_of-self c =
     let i = c.loop-partition.invariant in
     let none : (g : ℕ) (p : Pairs) → slice_get ps g ≡ Some p → p.len ≡ 0 = λ g p h. i.1 g p h (omega (arith, slice_get_within ps g p h, i.0, c.loop-partition-test.false)) in
     record { few = omega arith; total = group_none ps none; home = home_none ps none; sixteen = i.0 }
-
-pub loop-partition-preserved : goal.loop-partition-preserved
-loop-partition-preserved c =
-    let ps = c.loop-partition.partition-items in
-    let n = c.loop-partition.partition-index in
-    let q = c.clear.new.self in
-    let i = c.loop-partition.invariant in (
-      length-set ps n q ∙ i.0,
-      at_set (λ g p. g < n + 1 → p.len ≡ 0) ps n q (λ l. c.clear.ensures) (λ g p other h l. i.1 g p h (omega (arith, l, other))),
-    )

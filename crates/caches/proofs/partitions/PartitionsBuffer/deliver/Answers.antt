@@ -1,15 +1,13 @@
 -- Each turn delivers one partition; a refused one refuses the whole.
-use Rattle.std.proofs.Common.{◌≡◌, ◌+◌, List, get_or, take, drop, sym, ap, subst, arith}
+use Rattle.std.proofs.Common.{◌≡◌, ◌+◌, get_or, take, drop, sym, ap, subst, arith}
 use Rattle.std.proofs.Math.Path.{fun_ext}
-use Rattle.std.proofs.lemmas.List.{take_all}
 use Rattle.std.proofs.lemmas.Option.{slice_get-get_or}
 use Rattle.std.proofs.lemmas.Result.{err_from_is_err_and}
 use Rattle.stack.specs.Overruns.{Deliveries, all_added}
 use Rattle.stack.specs.Calls.{docs_for, Inside}
-use Rattle.caches.specs.declared.pairs.Pairs.{Pairs}
 use Rattle.caches.specs.Grouping.{part_waits, group_waits}
 use Rattle.caches.specs.Groups.{none_first, first_more, first_rest, part_inside}
-use Rattle.caches.specs.Parts.{went_first, went_last, went-part, overran-there}
+use Rattle.caches.specs.Parts.{went_first, went-part, overran-there}
 use Rattle.caches.proofs.partitions.PartitionsBuffer.deliver.Goals as goal
 
 pub loop-partition-init : goal.loop-partition-init
@@ -54,11 +52,3 @@ returns-in_err-collect_multiple g c =
     (Inside part) (λ D. all_added D part) (λ buckets i. subst (λ (W : Deliveries). Inside W buckets) (sym lent) (part_inside ps n p there buckets i)) (λ D. ap (all_added D) lent)
     (c.collect_multiple.new.self, c.collect_multiple.new.slots, c.collect_multiple.new.limits)
     c.loop-partition.auto.slots c.in_err-collect_multiple.field-0.0 c.in_err-collect_multiple.ensures)
-
-pub returns : goal.returns
-returns g c =
-    let level = g.L.SegmentAggregationCollector in
-    let ps = c.args.self.now.partitions in
-    let n = c.loop-partition.partition-index in
-    went_last level.holds level.plan level.made (g.S.Segment.means c.args.seg.now) (c.args.below.now, c.args.slots.now, c.args.limits.now) (c.loop-partition.below, c.loop-partition.slots, c.loop-partition.limits)
-    (group_waits ps) (group_waits (take n ps)) c.loop-partition.invariant (λ b. ap (λ (qs : List Pairs). group_waits qs b) (take_all n ps (omega (arith, c.args.self.now.sixteen, c.loop-partition-test.false))))

@@ -74,8 +74,8 @@ invariant_of-self-2 c =
       sixteen = length-set ps (b % 16) q ∙ ap length value ∙ self.sixteen;
     }
 
-pub returns : goal.returns
-returns c =
+pub returns-clause-after : goal.returns-clause-after
+returns-clause-after c =
     let self = c.args.self.now in
     let b = c.args.bucket in
     let ps = c.as_mut_slice-partitions.result.now in
@@ -85,11 +85,8 @@ returns c =
     let is-there = there self.partitions ps b c.index-partitions-bucket.result value self.sixteen in
     let taken = c.if-not-push.false in
     record {
-      answer = (λ h. ap not (sym (ne_eqb self.len 2048 c.if-self-eq-CAPACITY.false)), λ h. sym taken ∙ c.push.ensures.answer.1 h);
-      after = record {
-        waits = λ e. subst (λ (rs : List Pairs). group_waits (slice_set ps (b % 16) q) ≡ added (group_waits rs) b (c.args.doc ∷ [])) value
-            (group-push ps b c.args.doc p q is-there (subst AllHome (sym value) self.home) (c.push.ensures.after.waits taken));
-        one_more = λ e. refl;
-        unaltered = λ e. absurd (true≢false e);
-      };
+      waits = λ e. subst (λ (rs : List Pairs). group_waits (slice_set ps (b % 16) q) ≡ added (group_waits rs) b (c.args.doc ∷ [])) value
+          (group-push ps b c.args.doc p q is-there (subst AllHome (sym value) self.home) (c.push.ensures.after.waits taken));
+      one_more = λ e. refl;
+      unaltered = λ e. absurd (true≢false e);
     }
