@@ -76,9 +76,6 @@ only W n k = cond (k == n) (W k) []
 abbrev pub onward : Deliveries → ℕ → Deliveries
 onward W n k = cond (nat_lt k n) [] (W k)
 
-pub upto_none : (W : Deliveries) (k : ℕ) → upto W 0 k ≡ []
-upto_none W k = cond-false (nat_lt k 0) (W k) [] (le-ltb k 0 (omega arith))
-
 pub upto_step : (W : Deliveries) (n k : ℕ) → upto W n k ++ only W n k ≡ upto W (n + 1) k
 upto_step W n k = elim (cases_order k n) [
   | inl e ↦
