@@ -88,8 +88,8 @@ module _ (ps : List Pairs) (g : ℕ) (p : Pairs) (there : slice_get ps g ≡ Som
   len-set q = omega (arith, sum_by-set (λ (r : Pairs). r.len) ps g q p (slice_get_within ps g p there), ap (λ (r : Pairs). r.len) is-there)
 
 -- what a written list has at a place
-pub at_set : (P : ℕ → Pairs → Type 0) (ps : List Pairs) (g : ℕ) (q : Pairs) → P g q → ((i : ℕ) (r : Pairs) → (i ≢ g) → slice_get ps i ≡ Some r → P i r) → (i : ℕ) (r : Pairs) → slice_get (slice_set ps g q) i ≡ Some r → P i r
-at_set P ps g q here all i r e =
+at-set : (P : ℕ → Pairs → Type 0) (ps : List Pairs) (g : ℕ) (q : Pairs) → P g q → ((i : ℕ) (r : Pairs) → (i ≢ g) → slice_get ps i ≡ Some r → P i r) → (i : ℕ) (r : Pairs) → slice_get (slice_set ps g q) i ≡ Some r → P i r
+at-set P ps g q here all i r e =
     let l : i < length ps = omega (arith, slice_get_within (slice_set ps g q) i r e, length-set ps g q) in
     let is : slice_index_or (slice_set ps g q) i r ≡ r = get_or_from_slice_get (slice_set ps g q) i r r e in
     elim (cases_eq i g) [
@@ -100,7 +100,7 @@ at_set P ps g q here all i r e =
     ]
 
 pub home_set : (ps : List Pairs) (g : ℕ) (q : Pairs) → ((b : ℕ) → (b % 16 ≢ g) → part_waits q b ≡ []) → AllHome ps → AllHome (slice_set ps g q)
-home_set ps g q here all = at_set (λ i r. (b : ℕ) → (b % 16 ≢ i) → part_waits r b ≡ []) ps g q here (λ i r n. all i r)
+home_set ps g q here all = at-set (λ i r. (b : ℕ) → (b % 16 ≢ i) → part_waits r b ≡ []) ps g q here (λ i r n. all i r)
 
 other-set : (ps : List Pairs) (g : ℕ) (p q : Pairs) (k : ℕ) → slice_get ps g ≡ Some p → part_waits q k ≡ part_waits p k → group_waits (slice_set ps g q) k ≡ group_waits ps k
 unfolding group_waits
