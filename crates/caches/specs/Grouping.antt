@@ -1,24 +1,21 @@
--- Pairs in 16 partitions, by bucket number modulo 16. Tables have room for 2,048 entries in each.
-use Rattle.std.specs.Prelude.{◌≡◌, ℕ, ◌*◌, ◌%◌, ◌<◌, List, length, take, drop, slice_index}
+-- Pairs in partitions, by bucket number modulo 16.
+use Rattle.std.specs.Prelude.{◌≡◌, ℕ, ◌%◌, ◌≢◌, List, [], flat_map, sum_by, Some, slice_get}
 use Rattle.stack.specs.Overruns.{Deliveries}
-use Rattle.stack.specs.Calls.{docs_for}
-
--- a partition of a table
-abbrev pub partition : (table lens : List ℕ) → ℕ → List ℕ
-partition table lens g = take (slice_index lens g) (drop (g * 2048) table)
+use Rattle.caches.specs.declared.pairs.Pairs.{Pairs}
+use Rattle.caches.specs.Waiting.{waits_in}
 
 -- the documents of a partition that wait for each bucket
-abbrev pub part_waits : (buckets docs lens : List ℕ) → ℕ → Deliveries
-part_waits buckets docs lens g b = docs_for b (partition buckets lens g) (partition docs lens g)
+abbrev pub part_waits : Pairs → Deliveries
+part_waits p = waits_in p.bucket_ids p.docs p.len
 
--- the documents that wait for each bucket, in its partition
-abbrev pub group_waits : (buckets docs lens : List ℕ) → Deliveries
-group_waits buckets docs lens b = part_waits buckets docs lens (b % 16) b
+-- the documents that wait for each bucket, partition after partition
+unfoldable pub group_waits : List Pairs → Deliveries
+group_waits ps b = flat_map (λ p. part_waits p b) ps
 
--- all bucket numbers are below 512
-abbrev pub AllLow : (buckets lens : List ℕ) → Type 0
-AllLow buckets lens = (g k : ℕ) → k < length (partition buckets lens g) → slice_index (partition buckets lens g) k < 512
+-- how many pairs wait in all
+unfoldable pub group_len : List Pairs → ℕ
+group_len ps = sum_by (λ p. p.len) ps
 
--- each bucket number stands in its partition
-abbrev pub AllHome : (buckets lens : List ℕ) → Type 0
-AllHome buckets lens = (g k : ℕ) → k < length (partition buckets lens g) → slice_index (partition buckets lens g) k % 16 ≡ g
+-- each partition holds what waits for buckets with its number modulo 16
+abbrev pub AllHome : List Pairs → Type 0
+AllHome ps = (g : ℕ) (p : Pairs) → slice_get ps g ≡ Some p → (b : ℕ) → (b % 16 ≢ g) → part_waits p b ≡ []

@@ -1,156 +1,176 @@
--- Pairs in partitions: a pair written behind the others of its partition, and all partitions together.
-use Rattle.std.specs.Prelude.{◌≡◌, ℕ, zero, suc, ◌+◌, ◌*◌, ◌%◌, ◌<◌, ◌≤◌, cond, ◌⊎◌, List, [], ◌∷◌, ◌++◌, length, take, drop, replicate, ◌==◌, ◌≢◌, nat_lt, slice_index, slice_index_or, slice_set}
-use Rattle.std.proofs.Math.Path.{refl, sym, ap, fun_ext}
-use Rattle.std.proofs.Common.{subst, ◌∙◌, inl, inr, add-one, arith}
-use Rattle.std.proofs.lemmas.Nat.{mod_below}
-use Rattle.std.proofs.lemmas.List.{length-append, length_push, length-replicate, get_or-replicate, length-take, length-drop, get_or-set_same, get_or-set_other, get_or_past, get_or_append_left, get_or_push}
-use Rattle.std.proofs.lemmas.Bool.{cases_eq, cases_lt, cond-true, cond-false, eq-eqb, ne_eqb, lt-ltb, le-ltb}
-use Rattle.stack.specs.Overruns.{Deliveries, added, all_added}
-use Rattle.stack.specs.Calls.{docs_for, Inside, Waits}
-use Rattle.caches.specs.Waiting.{sum_below}
-use Rattle.caches.specs.Grouping.{partition, part_waits, group_waits, AllLow, AllHome}
-use Rattle.caches.specs.Counting.{sum_part, sum_same, sum_none, sum-with, part_other, part_more}
-use Rattle.caches.specs.Parts.{upto, only, upto_step, only_nil}
-use Rattle.caches.specs.Waits.{docs_append, docs_push, docs_absent, waits_low}
+-- Partitions: one that changes, all without pairs, the first of them, and the list of pairs that they are.
+use Rattle.std.specs.Prelude.{◌≡◌, ℕ, zero, suc, ◌+◌, ◌%◌, ◌<◌, ◌≤◌, ◌≢◌, List, [], ◌∷◌, ◌++◌, length, take, drop, replicate, ◌==◌, Some, slice_get, slice_set, slice_index_or, flat_map, sum_by, refl}
+use Rattle.std.proofs.Common.{sym, ap, ◌∙◌, subst, inl, inr, arith}
+use Rattle.std.proofs.Math.Path.{fun_ext}
+use Rattle.std.proofs.lemmas.Bool.{cases_eq, cond-true, cond-false, eq-eqb, ne_eqb}
+use Rattle.std.proofs.lemmas.List.{append-nil, append_assoc, length-take, length-set, nil_from_length, take_more, take-append-drop, get_or-set_same, get_or-set_other, get_or-replicate, length-replicate}
+use Rattle.std.proofs.lemmas.List.Concat.{flat_map-append, length-flat_map}
+use Rattle.std.proofs.lemmas.List.Sums.{sum_by-cons, sum_by-set, get_or-le-sum_by}
+use Rattle.std.proofs.lemmas.Option.{slice_get_within, slice_get_read, get_or_from_slice_get}
+use Rattle.stack.specs.Overruns.{added}
+use Rattle.stack.specs.Calls.{docs_for, Waits, Inside}
+use Rattle.caches.specs.declared.pairs.Pairs.{Pairs}
+use Rattle.caches.specs.Grouping.{part_waits, group_waits, group_len, AllHome}
+use Rattle.caches.specs.Waits.{docs_append, waits_low, low_take}
 
--- no partition has more pairs than there are in all
-pub each_few : (lens : List ℕ) (len : ℕ) → length lens ≡ 16 → sum_below (λ g. slice_index lens g) 16 ≡ len → (g : ℕ) → slice_index lens g ≤ len
-each_few lens len size total g = elim (cases_lt g 16) [
-  | inl l ↦ omega (arith, sum_part (λ k. slice_index lens k) g 16 l, total)
-  | inr l ↦ omega (arith, get_or_past lens g 0 (omega (arith, size, l)))
-]
+-- ---- the list of pairs that they are
 
--- partitions of two tables are as long
-part-paired : (bs ds lens : List ℕ) (g : ℕ) → length bs ≡ length ds → length (partition bs lens g) ≡ length (partition ds lens g)
-part-paired bs ds lens g e = omega (arith, e, length-take (slice_index lens g) (drop (g * 2048) bs), length-take (slice_index lens g) (drop (g * 2048) ds), length-drop (g * 2048) bs, length-drop (g * 2048) ds)
+buckets_in : List Pairs → List ℕ
+buckets_in ps = flat_map (λ p. take p.len p.bucket_ids) ps
 
--- ---- empty partitions
+docs_in : List Pairs → List ℕ
+docs_in ps = flat_map (λ p. take p.len p.docs) ps
 
-lens_none : (g : ℕ) → ◌≡◌ {A = ℕ} (slice_index (replicate 16 0) g) 0
-lens_none g = elim (cases_lt g 16) [
-  | inl l ↦ get_or-replicate 16 g 0 0 l
-  | inr l ↦ get_or_past (replicate 16 0) g 0 (omega (arith, length-replicate {A = ℕ} 16 0, l))
-]
+part-long : (p : Pairs) → (length (take p.len p.bucket_ids) ≡ p.len) × (length (take p.len p.docs) ≡ p.len)
+part-long p = (omega (arith, length-take p.len p.bucket_ids, p.whole, p.few), omega (arith, length-take p.len p.docs, p.beside, p.few))
 
-pub none_total : sum_below (λ g. slice_index (replicate 16 0) g) 16 ≡ 0
-none_total = sum_same (λ g. slice_index (replicate 16 0) g) (λ g. 0) 16 (λ g h. lens_none g) ∙ sum_none 16
+long-buckets : (ps : List Pairs) → length (buckets_in ps) ≡ group_len ps
+unfolding buckets_in group_len
+long-buckets ps = length-flat_map (λ (p : Pairs). take p.len p.bucket_ids) ps ∙ ap (λ (f : Pairs → ℕ). sum_by f ps) (fun_ext (λ p. (part-long p).0))
 
-pub none_there : (xs : List ℕ) (g k : ℕ) → k < length (partition xs (replicate 16 0) g) → ⊥
-none_there xs g k h = omega (arith, h, length-take (slice_index (replicate 16 0) g) (drop (g * 2048) xs), lens_none g)
+long-docs : (ps : List Pairs) → length (docs_in ps) ≡ group_len ps
+unfolding docs_in group_len
+long-docs ps = length-flat_map (λ (p : Pairs). take p.len p.docs) ps ∙ ap (λ (f : Pairs → ℕ). sum_by f ps) (fun_ext (λ p. (part-long p).1))
 
--- ---- an entry behind the others of its partition
+are-parts : (ps : List Pairs) (b : ℕ) → group_waits ps b ≡ docs_for b (buckets_in ps) (docs_in ps)
+unfolding buckets_in docs_in group_waits
+are-parts [] b = refl
+are-parts (p ∷ ps) b =
+    ap (λ (xs : List ℕ). part_waits p b ++ xs) (are-parts ps b)
+    ∙ sym (docs_append b (take p.len p.bucket_ids) (buckets_in ps) (take p.len p.docs) (docs_in ps) ((part-long p).0 ∙ sym (part-long p).1))
 
-abbrev Each : (ℕ → Type 0) → List ℕ → Type 0
-Each P ys = (j : ℕ) → j < length ys → P (slice_index ys j)
+none-wait : (ps : List Pairs) (b : ℕ) → ((i : ℕ) (p : Pairs) → slice_get ps i ≡ Some p → part_waits p b ≡ []) → group_waits ps b ≡ []
+unfolding group_waits
+none-wait [] b n = refl
+none-wait (p ∷ ps) b n = (λ i. n 0 p refl i ++ none-wait ps b (λ j r e. n (suc j) r e) i)
 
-each_push : (P : ℕ → Type 0) (ys : List ℕ) (x : ℕ) → Each P ys → P x → Each P (ys ++ (x ∷ []))
-each_push P ys x f here j h = elim (cases_lt j (length ys)) [
-  | inl l ↦ subst P (sym (get_or_append_left ys (x ∷ []) 0 j l)) (f j l)
-  | inr l ↦ subst P (sym (get_or_push ys x 0 j (omega (arith, l, h, length_push ys x)))) here
-]
+none-past : (ps : List Pairs) (b : ℕ) → 512 ≤ b → group_waits ps b ≡ []
+none-past ps b h = none-wait ps b (λ i p e. waits_low (take p.len p.bucket_ids) (take p.len p.docs) b (low_take p.bucket_ids p.len p.low) h)
 
-module _ (lens : List ℕ) (g : ℕ) (inside : g < 16) (size : length lens ≡ 16) (few : (k : ℕ) → slice_index lens k ≤ 2048) (room : slice_index_or lens g 0 < 2048) where
-  pub lens-total : (len : ℕ) → sum_below (λ k. slice_index lens k) 16 ≡ len → sum_below (λ k. slice_index (slice_set lens g (slice_index lens g + 1)) k) 16 ≡ len + 1
-  lens-total len e = omega (arith, e, sum-with (λ k. slice_index lens k) (λ k. slice_index (slice_set lens g (slice_index lens g + 1)) k) g (get_or-set_same lens g (slice_index lens g + 1) 0 (omega arith)) (λ k n. get_or-set_other lens g k (slice_index lens g + 1) 0 n) 16 inside)
-
-  partition-same : (xs : List ℕ) (x : ℕ) → length xs ≡ 32768 → partition (slice_set xs (g * 2048 + slice_index lens g) x) (slice_set lens g (slice_index lens g + 1)) g ≡ partition xs lens g ++ (x ∷ [])
-  partition-same xs x long =
-      ap (λ (n : ℕ). take n (drop (g * 2048) (slice_set xs (g * 2048 + slice_index lens g) x))) (get_or-set_same lens g (slice_index lens g + 1) 0 (omega arith))
-      ∙ part_more (slice_index lens g) (g * 2048) x xs (omega arith)
-
-  apart : (k : ℕ) → (k ≢ g) → (g * 2048 + slice_index lens g < k * 2048) ⊎ (k * 2048 + slice_index lens k ≤ g * 2048 + slice_index lens g)
-  apart k n = elim (cases_lt g k) [
-    | inl l ↦ inl (omega (arith, l, room))
-    | inr l ↦ inr (let under : k < g = omega (arith, l, n) in omega (arith, under, few k))
-  ]
-
-  partition-other : (xs : List ℕ) (x k : ℕ) → (k ≢ g) → partition (slice_set xs (g * 2048 + slice_index lens g) x) (slice_set lens g (slice_index lens g + 1)) k ≡ partition xs lens k
-  partition-other xs x k n =
-      ap (λ (m : ℕ). take m (drop (k * 2048) (slice_set xs (g * 2048 + slice_index lens g) x))) (get_or-set_other lens g k (slice_index lens g + 1) 0 n)
-      ∙ part_other (slice_index lens k) (k * 2048) (g * 2048 + slice_index lens g) x xs (apart k n)
-
-  -- what holds of each entry and its partition holds of the new one too
-  pub all_push : (P : ℕ → ℕ → Type 0) (xs : List ℕ) (x : ℕ) → length xs ≡ 32768 → P g x → ((k j : ℕ) → j < length (partition xs lens k) → P k (slice_index (partition xs lens k) j))
-      → (k j : ℕ) → j < length (partition (slice_set xs (g * 2048 + slice_index lens g) x) (slice_set lens g (slice_index lens g + 1)) k) → P k (slice_index (partition (slice_set xs (g * 2048 + slice_index lens g) x) (slice_set lens g (slice_index lens g + 1)) k) j)
-  all_push P xs x long here all k = elim (cases_eq k g) [
-    | inl e ↦ subst (λ (i : ℕ). Each (P i) (partition (slice_set xs (g * 2048 + slice_index lens g) x) (slice_set lens g (slice_index lens g + 1)) i)) (sym e) (subst (Each (P g)) (sym (partition-same xs x long)) (each_push (P g) (partition xs lens g) x (all g) here))
-    | inr n ↦ subst (Each (P k)) (sym (partition-other xs x k n)) (all k)
-  ]
-
-module _ (bs ds lens : List ℕ) (b d : ℕ) (size : length lens ≡ 16) (few : (k : ℕ) → slice_index lens k ≤ 2048) (room : slice_index_or lens (b % 16) 0 < 2048) (lb : length bs ≡ 32768) (ld : length ds ≡ 32768) where
-  pub group-push : group_waits (slice_set bs (b % 16 * 2048 + slice_index lens (b % 16)) b) (slice_set ds (b % 16 * 2048 + slice_index lens (b % 16)) d) (slice_set lens (b % 16) (slice_index lens (b % 16) + 1)) ≡ added (group_waits bs ds lens) b (d ∷ [])
-  group-push = fun_ext (λ k. elim (cases_eq (k % 16) (b % 16)) [
-    | inl e ↦
-        ap (λ (g : ℕ). part_waits (slice_set bs (b % 16 * 2048 + slice_index lens (b % 16)) b) (slice_set ds (b % 16 * 2048 + slice_index lens (b % 16)) d) (slice_set lens (b % 16) (slice_index lens (b % 16) + 1)) g k) e
-        ∙ (λ i. docs_for k (partition-same lens (b % 16) low size few room bs b lb i) (partition-same lens (b % 16) low size few room ds d ld i))
-        ∙ docs_push k b d (partition bs lens (b % 16)) (partition ds lens (b % 16)) (part-paired bs ds lens (b % 16) (lb ∙ sym ld))
-        ∙ ap (λ (g : ℕ). cond (k == b) (part_waits bs ds lens g k ++ (d ∷ [])) (part_waits bs ds lens g k)) (sym e)
-    | inr n ↦
-        (λ i. docs_for k (partition-other lens (b % 16) low size few room bs b (k % 16) n i) (partition-other lens (b % 16) low size few room ds d (k % 16) n i))
-        ∙ sym (cond-false (k == b) (group_waits bs ds lens k ++ (d ∷ [])) (group_waits bs ds lens k) (ne_eqb k b (λ e. n (ap (λ (j : ℕ). j % 16) e))))
-  ])
-    where
-      low : b % 16 < 16
-      low = mod_below b 16 (omega arith)
-
--- ---- all partitions
-
--- the key of a bucket is its partition
-abbrev pub home : ℕ → ℕ
-home b = b % 16
-
-module _ (bs ds lens : List ℕ) (right : AllHome bs lens) where
-  -- a partition has what waits for its buckets
-  pub part-only : (g b : ℕ) → part_waits bs ds lens g b ≡ only home (group_waits bs ds lens) g b
-  part-only g b = elim (cases_eq (b % 16) g) [
-    | inl e ↦ ap (λ (k : ℕ). part_waits bs ds lens k b) (sym e) ∙ sym (cond-true (b % 16 == g) (group_waits bs ds lens b) [] (eq-eqb (b % 16) g e))
-    | inr n ↦
-        docs_absent (partition bs lens g) (partition ds lens g) b (λ k h e. n (ap (λ (j : ℕ). j % 16) (sym e) ∙ right g k h))
-        ∙ sym (cond-false (b % 16 == g) (group_waits bs ds lens b) [] (ne_eqb (b % 16) g n))
-  ]
-
-  pub part-added : (g : ℕ) (D : Deliveries) → all_added D (part_waits bs ds lens g) ≡ all_added D (only home (group_waits bs ds lens) g)
-  part-added g D = fun_ext (λ b. ap (λ (xs : List ℕ). D b ++ xs) (part-only g b))
-
-  pub part-inside : (g buckets : ℕ) → Inside (group_waits bs ds lens) buckets → Inside (part_waits bs ds lens g) buckets
-  part-inside g buckets i b h = part-only g b ∙ only_nil home (group_waits bs ds lens) g b (i b h)
-
--- every bucket has one of the 16
-pub home-past : (bs ds lens : List ℕ) (n b : ℕ) → 16 ≤ n → n ≤ home b → group_waits bs ds lens b ≡ []
-home-past bs ds lens n b l h = absurd (let z : ⊥ = omega (arith, mod_below b 16 (omega arith)) in z)
-
--- the first partitions one behind the other
-all_parts : List ℕ → List ℕ → ℕ → List ℕ
-all_parts xs lens zero = []
-all_parts xs lens (suc g) = all_parts xs lens g ++ partition xs lens g
-
-module _ (lens : List ℕ) (few : (k : ℕ) → slice_index lens k ≤ 2048) where
-  length-all : (xs : List ℕ) → length xs ≡ 32768 → (n : ℕ) → n ≤ 16 → length (all_parts xs lens n) ≡ sum_below (λ g. slice_index lens g) n
-  unfolding all_parts sum_below
-  length-all xs long zero h = refl
-  length-all xs long (suc g) h =
-      omega (arith, length-append (all_parts xs lens g) (partition xs lens g), length-all xs long g (omega arith), length-take (slice_index lens g) (drop (g * 2048) xs), length-drop (g * 2048) xs, few g)
-
-  docs-all : (bs ds : List ℕ) → length bs ≡ 32768 → length ds ≡ 32768 → AllHome bs lens → (b n : ℕ) → n ≤ 16 → docs_for b (all_parts bs lens n) (all_parts ds lens n) ≡ upto home (group_waits bs ds lens) n b
-  unfolding all_parts
-  docs-all bs ds lb ld right b zero h = sym (cond-false (nat_lt (b % 16) 0) (group_waits bs ds lens b) [] (le-ltb (b % 16) 0 (omega arith)))
-  docs-all bs ds lb ld right b (suc g) h =
-      docs_append b (all_parts bs lens g) (partition bs lens g) (all_parts ds lens g) (partition ds lens g) (length-all bs lb g (omega arith) ∙ sym (length-all ds ld g (omega arith)))
-      ∙ (λ i. docs-all bs ds lb ld right b g (omega arith) i ++ part-only bs ds lens right g b i)
-      ∙ upto_step home (group_waits bs ds lens) g b
-      ∙ ap (λ (n : ℕ). upto home (group_waits bs ds lens) n b) (add-one g)
-
--- the partitions one behind the other are the list that waits
-pub group_record : (bs ds lens : List ℕ) (len : ℕ) → length bs ≡ 32768 → length ds ≡ 32768 → length lens ≡ 16 → len ≤ 2048 → sum_below (λ g. slice_index lens g) 16 ≡ len → AllLow bs lens → AllHome bs lens → Waits (group_waits bs ds lens) len
-group_record bs ds lens len lb ld size few total low right = record {
-  buckets = all_parts bs lens 16;
-  docs = all_parts ds lens 16;
-  paired = length-all lens each bs lb 16 (omega arith) ∙ sym (length-all lens each ds ld 16 (omega arith));
-  count = length-all lens each ds ld 16 (omega arith) ∙ total;
+pub group_record : (ps : List Pairs) (len : ℕ) → len ≤ 2048 → group_len ps ≡ len → Waits (group_waits ps) len
+group_record ps len few total = record {
+  buckets = buckets_in ps;
+  docs = docs_in ps;
+  paired = long-buckets ps ∙ sym (long-docs ps);
+  count = long-docs ps ∙ total;
   few = few;
-  parts = λ b. sym (docs-all lens each bs ds lb ld right b 16 (omega arith) ∙ cond-true (nat_lt (b % 16) 16) (group_waits bs ds lens b) [] (lt-ltb (b % 16) 16 (mod_below b 16 (omega arith))));
-  inside = λ b. waits_low (partition bs lens (b % 16)) (partition ds lens (b % 16)) b (low (b % 16));
+  parts = are-parts ps;
+  inside = none-past ps;
 }
-  where
-    each : (k : ℕ) → slice_index lens k ≤ 2048
-    each k = omega (arith, each_few lens len size total k, few)
+
+-- ---- all without pairs
+
+pub group_none : (ps : List Pairs) → ((g : ℕ) (p : Pairs) → slice_get ps g ≡ Some p → p.len ≡ 0) → group_len ps ≡ 0
+unfolding group_len
+group_none [] e = refl
+group_none (p ∷ ps) e = omega (arith, sum_by-cons (λ (q : Pairs). q.len) p ps, e 0 p refl, group_none ps (λ g q h. e (suc g) q h))
+
+pub home_none : (ps : List Pairs) → ((g : ℕ) (p : Pairs) → slice_get ps g ≡ Some p → p.len ≡ 0) → AllHome ps
+home_none ps e g p h b n = ap (λ (l : ℕ). docs_for b (take l p.bucket_ids) (take l p.docs)) (e g p h)
+
+pub copies_none : (n : ℕ) (q : Pairs) → q.len ≡ 0 → (g : ℕ) (p : Pairs) → slice_get (replicate n q) g ≡ Some p → p.len ≡ 0
+copies_none n q e g p h =
+    let l : g < n = omega (arith, slice_get_within (replicate n q) g p h, length-replicate n q) in
+    ap (λ (r : Pairs). r.len) (sym (get_or_from_slice_get (replicate n q) g p q h) ∙ get_or-replicate n g q q l) ∙ e
+
+-- ---- one that changes
+
+module _ (ps : List Pairs) (g : ℕ) (p : Pairs) (there : slice_get ps g ≡ Some p) where
+  is-there : slice_index_or ps g p ≡ p
+  is-there = get_or_from_slice_get ps g p p there
+
+  pub part-few : p.len ≤ group_len ps
+  unfolding group_len
+  part-few = omega (arith, get_or-le-sum_by (λ (q : Pairs). q.len) ps g p (slice_get_within ps g p there), ap (λ (q : Pairs). q.len) is-there)
+
+  pub len-set : (q : Pairs) → group_len (slice_set ps g q) + p.len ≡ group_len ps + q.len
+  unfolding group_len
+  len-set q = omega (arith, sum_by-set (λ (r : Pairs). r.len) ps g q p (slice_get_within ps g p there), ap (λ (r : Pairs). r.len) is-there)
+
+-- what a written list has at a place
+at-set : (P : ℕ → Pairs → Type 0) (ps : List Pairs) (g : ℕ) (q : Pairs) → P g q → ((i : ℕ) (r : Pairs) → (i ≢ g) → slice_get ps i ≡ Some r → P i r) → (i : ℕ) (r : Pairs) → slice_get (slice_set ps g q) i ≡ Some r → P i r
+at-set P ps g q here all i r e =
+    let l : i < length ps = omega (arith, slice_get_within (slice_set ps g q) i r e, length-set ps g q) in
+    let is : slice_index_or (slice_set ps g q) i r ≡ r = get_or_from_slice_get (slice_set ps g q) i r r e in
+    elim (cases_eq i g) [
+      | inl h ↦
+          let z : q ≡ r = sym (get_or-set_same ps g q r (omega (arith, l, h))) ∙ ap (λ (j : ℕ). slice_index_or (slice_set ps g q) j r) (sym h) ∙ is in
+          subst (P i) z (subst (λ (j : ℕ). P j q) (sym h) here)
+      | inr n ↦ all i r n (slice_get_read ps (length ps) i r refl l (sym is ∙ get_or-set_other ps g i q r n))
+    ]
+
+pub home_set : (ps : List Pairs) (g : ℕ) (q : Pairs) → ((b : ℕ) → (b % 16 ≢ g) → part_waits q b ≡ []) → AllHome ps → AllHome (slice_set ps g q)
+home_set ps g q here all = at-set (λ i r. (b : ℕ) → (b % 16 ≢ i) → part_waits r b ≡ []) ps g q here (λ i r n. all i r)
+
+other-set : (ps : List Pairs) (g : ℕ) (p q : Pairs) (k : ℕ) → slice_get ps g ≡ Some p → part_waits q k ≡ part_waits p k → group_waits (slice_set ps g q) k ≡ group_waits ps k
+unfolding group_waits
+other-set [] g p q k e s = refl
+other-set (r ∷ ps) zero p q k e s = let z : p ≡ r = cc in ap (λ (xs : List ℕ). xs ++ group_waits ps k) (s ∙ ap (λ (t : Pairs). part_waits t k) z)
+other-set (r ∷ ps) (suc g) p q k e s = ap (λ (xs : List ℕ). part_waits r k ++ xs) (other-set ps g p q k e s)
+
+more-set : (ps : List Pairs) (g : ℕ) (p q : Pairs) (b d : ℕ) → slice_get ps g ≡ Some p → ((i : ℕ) (r : Pairs) → g < i → slice_get ps i ≡ Some r → part_waits r b ≡ []) → part_waits q b ≡ part_waits p b ++ (d ∷ []) → group_waits (slice_set ps g q) b ≡ group_waits ps b ++ (d ∷ [])
+unfolding group_waits
+more-set [] g p q b d e n s = absurd (let z : ⊥ = cc in z)
+more-set (r ∷ ps) zero p q b d e n s =
+    let z : p ≡ r = cc in
+    let rest : group_waits ps b ≡ [] = none-wait ps b (λ i t h. n (suc i) t (omega arith) h) in
+    (λ i. (s ∙ ap (λ (t : Pairs). part_waits t b ++ (d ∷ [])) z) i ++ rest i) ∙ append-nil (part_waits r b ++ (d ∷ []))
+    ∙ ap (λ (xs : List ℕ). xs ++ (d ∷ [])) (sym (append-nil (part_waits r b)) ∙ ap (λ (xs : List ℕ). part_waits r b ++ xs) (sym rest))
+more-set (r ∷ ps) (suc g) p q b d e n s =
+    ap (λ (xs : List ℕ). part_waits r b ++ xs) (more-set ps g p q b d e (λ i t l h. n (suc i) t (omega arith) h) s)
+    ∙ sym (append_assoc (part_waits r b) (group_waits ps b) (d ∷ []))
+
+-- a pair more in its partition
+module _ (ps : List Pairs) (b d : ℕ) (p q : Pairs) (there : slice_get ps (b % 16) ≡ Some p) (home : AllHome ps) (grown : part_waits q ≡ added (part_waits p) b (d ∷ [])) where
+  grown-same : (k : ℕ) → k ≡ b → part_waits q k ≡ part_waits p k ++ (d ∷ [])
+  grown-same k e = (λ i. grown i k) ∙ cond-true (k == b) (part_waits p k ++ (d ∷ [])) (part_waits p k) (eq-eqb k b e)
+
+  grown-other : (k : ℕ) → (k ≢ b) → part_waits q k ≡ part_waits p k
+  grown-other k n = (λ i. grown i k) ∙ cond-false (k == b) (part_waits p k ++ (d ∷ [])) (part_waits p k) (ne_eqb k b n)
+
+  pub home-push : AllHome (slice_set ps (b % 16) q)
+  home-push = home_set ps (b % 16) q (λ k n. grown-other k (λ e. n (ap (λ (j : ℕ). j % 16) e)) ∙ home (b % 16) p there k n) home
+
+  pub group-push : group_waits (slice_set ps (b % 16) q) ≡ added (group_waits ps) b (d ∷ [])
+  group-push = fun_ext (λ k. elim (cases_eq k b) [
+    | inl e ↦
+        subst (λ (j : ℕ). group_waits (slice_set ps (b % 16) q) j ≡ group_waits ps j ++ (d ∷ [])) (sym e)
+        (more-set ps (b % 16) p q b d there (λ i r l h. home i r h b (λ x. omega (arith, l, x))) (grown-same b refl))
+        ∙ sym (cond-true (k == b) (group_waits ps k ++ (d ∷ [])) (group_waits ps k) (eq-eqb k b e))
+    | inr n ↦
+        other-set ps (b % 16) p q k there (grown-other k n)
+        ∙ sym (cond-false (k == b) (group_waits ps k ++ (d ∷ [])) (group_waits ps k) (ne_eqb k b n))
+  ])
+
+-- one with the pairs that it had
+module _ (ps : List Pairs) (g : ℕ) (p q : Pairs) (there : slice_get ps g ≡ Some p) (same : part_waits q ≡ part_waits p) where
+  pub home-kept : AllHome ps → AllHome (slice_set ps g q)
+  home-kept home = home_set ps g q (λ k n. (λ i. same i k) ∙ home g p there k n) home
+
+  pub group-kept : group_waits (slice_set ps g q) ≡ group_waits ps
+  group-kept = fun_ext (λ k. other-set ps g p q k there (λ i. same i k))
+
+-- ---- the first of them
+
+pub first_more : (ps : List Pairs) (n : ℕ) (p : Pairs) → slice_get ps n ≡ Some p → (b : ℕ) → group_waits (take (n + 1) ps) b ≡ group_waits (take n ps) b ++ part_waits p b
+unfolding group_waits
+first_more ps n p there b =
+    ap (λ (qs : List Pairs). group_waits qs b) (take_more ps n p (slice_get_within ps n p there) ∙ ap (λ (q : Pairs). take n ps ++ (q ∷ [])) (is-there ps n p there))
+    ∙ flat_map-append (λ (q : Pairs). part_waits q b) (take n ps) (p ∷ []) ∙ ap (λ (xs : List ℕ). group_waits (take n ps) b ++ xs) (append-nil (part_waits p b))
+
+pub first_rest : (n : ℕ) (ps : List Pairs) (b : ℕ) → group_waits ps b ≡ group_waits (take n ps) b ++ group_waits (drop n ps) b
+unfolding group_waits
+first_rest n ps b = sym (ap (λ (qs : List Pairs). group_waits qs b) (take-append-drop n ps)) ∙ flat_map-append (λ (q : Pairs). part_waits q b) (take n ps) (drop n ps)
+
+pub none_first : (ps : List Pairs) (b : ℕ) → group_waits (take 0 ps) b ≡ []
+unfolding group_waits
+none_first ps b = refl
+
+part-short : (ps : List Pairs) (n : ℕ) (p : Pairs) → slice_get ps n ≡ Some p → (b : ℕ) → length (part_waits p b) ≤ length (group_waits ps b)
+unfolding group_waits
+part-short ps n p there b =
+    omega (arith, length-flat_map (λ (q : Pairs). part_waits q b) ps, get_or-le-sum_by (λ (q : Pairs). length (part_waits q b)) ps n p (slice_get_within ps n p there), ap (λ (q : Pairs). length (part_waits q b)) (is-there ps n p there))
+
+-- what one of them delivers is for buckets below those of all
+pub part_inside : (ps : List Pairs) (n : ℕ) (p : Pairs) → slice_get ps n ≡ Some p → (buckets : ℕ) → Inside (group_waits ps) buckets → Inside (part_waits p) buckets
+part_inside ps n p e buckets i b h = nil_from_length (part_waits p b) (omega (arith, part-short ps n p e b, ap length (i b h)))

@@ -1,5 +1,5 @@
 -- The pairs that wait in tables: a bucket number and, at the same place, a document.
-use Rattle.std.specs.Prelude.{ℕ, zero, suc, ◌+◌, ◌-◌, ◌<◌, ◌≤◌, cond, List, [], ◌∷◌, take, drop, ◌==◌, slice_index}
+use Rattle.std.specs.Prelude.{ℕ, zero, suc, ◌+◌, ◌-◌, ◌<◌, ◌≤◌, List, ◌∷◌, count_by, take, drop, ◌==◌, slice_index}
 use Rattle.stack.specs.Overruns.{Deliveries}
 use Rattle.stack.specs.Calls.{docs_for}
 
@@ -15,8 +15,7 @@ Low buckets len = (k : ℕ) → k < len → slice_index buckets k < 512
 
 -- how often a bucket is named
 abbrev pub times : ℕ → List ℕ → ℕ
-times b [] = 0
-times b (k ∷ ks) = cond (k == b) (suc (times b ks)) (times b ks)
+times b buckets = count_by (λ k. k == b) buckets
 
 -- the sum of the first counts
 unfoldable pub sum_below : (ℕ → ℕ) → ℕ → ℕ

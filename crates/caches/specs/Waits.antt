@@ -37,12 +37,6 @@ waits_push bs ds len b d hb hd = fun_ext (λ k.
     (λ i. docs_for k (take_more_set bs len b hb i) (take_more_set ds len d hd i))
     ∙ docs_push k b d (take len bs) (take len ds) (omega (arith, length-take len bs, length-take len ds)))
 
-pub low_push : (bs : List ℕ) (len b : ℕ) → len < length bs → b < 512 → Low bs len → Low (slice_set bs len b) (len + 1)
-low_push bs len b h l low k lt = elim (cases_eq k len) [
-  | inl e ↦ let s : slice_index_or (slice_set bs len b) k 0 ≡ b = ap (λ (j : ℕ). slice_index (slice_set bs len b) j) e ∙ get_or-set_same bs len b 0 h in omega (arith, s, l)
-  | inr n ↦ let s : slice_index_or (slice_set bs len b) k 0 ≡ slice_index_or bs k 0 = get_or-set_other bs len k b 0 n in let under : k < len = omega arith in omega (arith, s, low k under)
-]
-
 -- a bucket that is not named
 pub docs_absent : (bs ds : List ℕ) (b : ℕ) → ((k : ℕ) → k < length bs → slice_index bs k ≢ b) → docs_for b bs ds ≡ []
 docs_absent [] ds b no_one = refl

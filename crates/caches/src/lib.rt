@@ -2,6 +2,8 @@
 
 #![tactic(auto)]
 
+mod buffer;
+mod cached_sub_aggs;
 pub mod high_card;
 pub mod low_card;
 mod pairs;
