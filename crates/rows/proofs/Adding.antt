@@ -1,13 +1,16 @@
--- What a row more shows, and what is charged where none is made.
-use Rattle.std.proofs.Common.{◌≡◌, ℕ, ◌+◌, ◌^◌, ◌<◌, ◌≤◌, ◌⊎◌, get_or, set, sym, ap, ◌∙◌, inl, inr, arith, get_or-set_same, get_or-set_other}
+-- What a row more shows, what is charged where none is made, and what counting shows.
+use Rattle.std.proofs.Common.{◌≡◌, ℕ, ◌+◌, ◌-◌, ◌^◌, ◌<◌, ◌⊎◌, ℤ, Result, MatchResult, get_or, set, sym, refl, ap, ◌∙◌, inl, inr, arith, get_or-set_same, get_or-set_other}
+use Rattle.std.proofs.lemmas.Result.{MatchResult-weaker}
 use Rattle.std.proofs.lemmas.Bool.{cases_lt}
 use Rattle.records.specs.declared.fault.Fault.{Fault}
-use Rattle.records.specs.declared.fault.Refusal.TheVariants.{TooManyRows, AllowanceExceeded}
+use Rattle.records.specs.declared.fault.Refusal.TheVariants.{TooManyRows, AllowanceExceeded, CountOverflow}
 use Rattle.limits.specs.Limits as limits
 use Rattle.limits.specs.declared.agg_limits.AggregationLimits.{AggregationLimits}
 use Rattle.stack.specs.Overruns.{fault, numbered}
 use Rattle.stack.specs.Calls.{Charged, Stopped, for_rows, and_one, at_most}
-use Rattle.rows.specs.Counting.{OneMore, NoMore, full, uncharged}
+use Rattle.stack.specs.Levels.{Lvl}
+use Rattle.rows.specs.Counting.{OneMore, NoMore, full, uncharged, OneUp, table_with}
+use Rattle.rows.specs.Tables.{Counted}
 use Rattle.rows.specs.declared.counts.Counts.{Counts}
 
 -- A level's number is a u32, as a fault has it.
@@ -56,3 +59,19 @@ reason c before between after made makes f p n = elim n [
   | full a b e ↦ inl (a, b)
   | uncharged a b r ↦ inr (a, omega (arith, r.above, p.paid, p.same_limit))
 ]
+
+-- A reading counted, or not, as the table has it.
+pub counted : (l : Lvl) (bucket : ℕ → ℕ) (step : ℕ → ℤ) (was is : Counts) (row : ℕ) (r : Result (Unit {0}) Fault)
+    → MatchResult r (λ _. (row < was.rows) × OneUp was is row) (λ f. (f ≡ fault CountOverflow was.level) × (is ≡ was) × (row < was.rows → get_or was.counts row 0 ≡ 2 ^ 64 - 1))
+    → MatchResult r (λ _. (row < was.rows) × Counted (table_with l bucket step was) (table_with l bucket step is) row) (λ f. row < was.rows → (f ≡ fault CountOverflow was.level) × (get_or was.counts row 0 ≡ 2 ^ 64 - 1) × (table_with l bucket step is ≡ table_with l bucket step was))
+counted l bucket step was is row r e = MatchResult-weaker r e
+    (λ _ up. (up.0, record {
+      same_level = refl;
+      same_number = up.1.same_level;
+      same_rows = up.1.same_rows;
+      same_bucket = λ k h. refl;
+      same_step = λ k h. refl;
+      here = up.1.here;
+      elsewhere = λ k h ne. up.1.elsewhere k ne;
+    }))
+    (λ f no h. (no.0, no.2 h, ap (table_with l bucket step) no.1))

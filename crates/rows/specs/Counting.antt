@@ -1,11 +1,24 @@
 -- What making a row and counting a reading do to a level's counts.
-use Rattle.std.specs.Prelude.{◌≡◌, ℕ, ◌+◌, ◌^◌, ◌<◌, ◌≢◌, slice_index, slice_set}
+use Rattle.std.specs.Prelude.{◌≡◌, ℕ, ◌+◌, ◌^◌, ◌<◌, ◌≢◌, ℤ, slice_index, slice_set}
 use Rattle.records.specs.declared.fault.Fault.{Fault}
 use Rattle.records.specs.declared.fault.Refusal.TheVariants.{TooManyRows, AllowanceExceeded}
 use Rattle.limits.specs.Limits.{Refused}
 use Rattle.limits.specs.declared.agg_limits.AggregationLimits.{AggregationLimits}
 use Rattle.stack.specs.Overruns.{fault}
+use Rattle.stack.specs.Levels.{Lvl}
+use Rattle.rows.specs.Tables.{Table}
 use Rattle.rows.specs.declared.counts.Counts.{Counts}
+
+-- the table of a level whose rows have these buckets, steps and counts
+abbrev pub table_with : Lvl → (ℕ → ℕ) → (ℕ → ℤ) → Counts → Table
+table_with l bucket step c = record {
+  level = l;
+  number = c.level;
+  rows = c.rows;
+  bucket = bucket;
+  step = step;
+  count = λ k. slice_index c.counts k;
+}
 
 -- one row more, with count 0; nothing else changed
 pub record OneMore (was is : Counts) : Type 0 where
