@@ -16,7 +16,6 @@ first_equal Equal b h = (refl, h)
 first_equal Greater b h = (h, cc)
 
 pub cmp_same : (p q : List ℤ) → path_cmp p q ≡ Equal → p ≡ q
-unfolding path_cmp
 cmp_same [] [] h = refl
 cmp_same [] (y ∷ ys) h = cc
 cmp_same (x ∷ xs) [] h = cc
@@ -27,13 +26,11 @@ cmp_same (x ∷ xs) (y ∷ ys) h =
     cc
 
 pub cmp_extends : (p : List ℤ) (s : ℤ) (r : List ℤ) → path_cmp p (p ++ (s ∷ r)) ≡ Less
-unfolding path_cmp
 cmp_extends [] s r = refl
 cmp_extends (x ∷ xs) s r =
     ap (λ o. ordering_then o (slice_cmp int_cmp xs (xs ++ (s ∷ r)))) (own (int_cmp x x) (int_cmp_total.antisymm x x)) ∙ cmp_extends xs s r
 
 pub path_order : PathOrder
-unfolding path_cmp
 path_order = record {
   flips = (lists_total int_cmp_total).antisymm;
   chains = (lists_total int_cmp_total).trans;

@@ -11,7 +11,7 @@ abbrev pub steps_of : Path → List ℤ
 steps_of p = take p.len p.steps
 
 -- how two paths stand to each other, by std's lexicographic order
-unfoldable pub path_cmp : List ℤ → List ℤ → Ordering
+abbrev pub path_cmp : List ℤ → List ℤ → Ordering
 path_cmp = slice_cmp int_cmp
 
 -- the laws of the order: it is total, equal means the same steps, and a path comes before its extensions

@@ -1,14 +1,14 @@
 //! The kinds of levels.
-ghost use Rattle.std.specs.Prelude.{◌≡◌, Decides};
+ghost use Rattle.std.specs.Prelude.{◌≡◌};
 ghost use Rattle.records.specs.Kinds.{kind_number};
 
-/// What a level sorts by.
-#[derive(Clone, Copy, Debug)]
+/// What a level sorts by. Its discriminant is the number that stands for the kind in a sheet.
+#[derive(Clone, Copy, Debug, PartialEq, Eq)]
 pub enum Kind {
     /// Tiles of a tiling.
-    Range,
+    Range = 1,
     /// Slots of a grid.
-    Histogram,
+    Histogram = 2,
 }
 
 impl Kind {
@@ -16,16 +16,6 @@ impl Kind {
     pub fn number(self) -> u8
         ensures { result ≡ kind_number self }
     {
-        match self {
-            Kind::Range => 1,
-            Kind::Histogram => 2,
-        }
-    }
-
-    /// Whether two kinds are the same.
-    pub fn same(self, other: Kind) -> bool
-        ensures { Decides result (self ≡ other) }
-    {
-        self.number() == other.number()
+        self as u8
     }
 }
