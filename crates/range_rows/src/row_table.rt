@@ -34,11 +34,7 @@ impl RowTable for RangeRows {
         seg: &S,
         level: u32,
     ) -> Result<(), Fault> {
-        let unknown = Fault {
-            refusal: Refusal::UnknownColumn,
-            level,
-            place: 0,
-        };
+        let unknown = Refusal::UnknownColumn.at(level);
         let field_type = seg.column_type(request.column).ok_or(unknown)?;
         validate_ranges(request.ranges(ranges), field_type, level)
     }
@@ -146,11 +142,8 @@ mod tests {
         table
     }
 
-    fn refusal(r: Result<(), Fault>) -> (u8, u32) {
-        match r {
-            Ok(()) => (0, 0),
-            Err(f) => (f.refusal.number(), f.level),
-        }
+    fn refusal(r: Result<(), Fault>) -> Option<(u8, u32)> {
+        r.err().map(|f| (f.refusal.number(), f.level))
     }
 
     #[test]
@@ -176,9 +169,9 @@ mod tests {
             used: 0,
         };
         let mut table = four_tiles();
-        assert_eq!(rt; refusal(table.prepare(&mut limits, 128)), (0, 0));
+        assert_eq!(rt; refusal(table.prepare(&mut limits, 128)), None);
         assert_eq!(rt; table.num_rows(), 512);
-        assert_eq!(rt; refusal(table.prepare(&mut limits, 129)), (11, 3));
+        assert_eq!(rt; refusal(table.prepare(&mut limits, 129)), Some((11, 3)));
         assert_eq!(rt; table.num_rows(), 512);
         assert_eq!(rt; limits.used, 512);
     }
@@ -187,7 +180,7 @@ mod tests {
     fn an_allowance_one_short(rt: HostRuntime) {
         let mut limits = AggregationLimits { limit: 7, used: 0 };
         let mut table = four_tiles();
-        assert_eq!(rt; refusal(table.prepare(&mut limits, 2)), (12, 3));
+        assert_eq!(rt; refusal(table.prepare(&mut limits, 2)), Some((12, 3)));
         assert_eq!(rt; table.num_rows(), 7);
         assert_eq!(rt; limits.used, 8);
         assert_eq!(rt; table.row_at(1, 2), Some(6));

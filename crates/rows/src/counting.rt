@@ -41,11 +41,7 @@ impl Counts {
     {
         let row = self.rows;
         if row == MOST_ROWS {
-            return Err(Fault {
-                refusal: Refusal::TooManyRows,
-                level: self.level,
-                place: 0,
-            });
+            return Err(Refusal::TooManyRows.at(self.level));
         }
         // Read so that it is known to be a u64, which a call alone does not say: at 2^64 − 1 the refused charge is not added.
         let _used = limits.used;
@@ -59,11 +55,7 @@ impl Counts {
     pub fn count_up(&mut self, row: usize) -> Result<(), Fault>
         ensures { MatchResult result (λ _. (row < self.old.rows) × OneUp self.old self.new row) (λ f. (f ≡ fault CountOverflow self.old.level) × (self.new ≡ self.old) × (row < self.old.rows → slice_index self.old.counts row ≡ 2 ^ 64 - 1)) }
     {
-        let full = Fault {
-            refusal: Refusal::CountOverflow,
-            level: self.level,
-            place: 0,
-        };
+        let full = Refusal::CountOverflow.at(self.level);
         if row >= self.rows {
             return Err(full);
         }
