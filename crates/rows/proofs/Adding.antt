@@ -75,3 +75,7 @@ counted l bucket step was is row r e = MatchResult-weaker r e
       elsewhere = λ k h ne. up.1.elsewhere k ne;
     }))
     (λ f no h. (no.0, no.2 h, ap (table_with l bucket step) no.1))
+
+-- Where no row is made nothing is charged.
+pub none_charged : (limits : AggregationLimits) (made : ℕ) → Charged limits limits made made
+none_charged limits made = record { same_limit = refl; grown = omega arith; paid = refl; within = λ h. absurd (omega arith) }
