@@ -50,8 +50,8 @@ def bodies():
             rest = text[m.end():]
             end = re.search(rf"^{m.group(1)}\}}", rest, re.M)
             head = re.search(rf"^{m.group(1)}\{{$|\{{$", rest, re.M)
-            if not end or not head or head.start() > end.start() or re.search(r";\n", rest[:head.start()]):
-                continue  # declared without a body
+            if not end or not head or head.start() > end.start() or re.search(r";\n|\{\}\n", rest[:head.start()]):
+                continue  # declared without a body, or with an empty one
             body = re.sub(r"//[^\n]*", "", rest[head.end():end.start()])
             yield short, text.count("\n", 0, m.start()) + 1, m.group(2), re.findall(r"\w+|[^\w\s]", body)
 

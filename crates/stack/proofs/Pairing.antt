@@ -4,7 +4,7 @@ use mathlib.Core.Path.{fun_ext}
 use Rattle.std.proofs.lemmas.List.{append-nil, get_or-take, get_or-drop, length-take, length-drop, take-take, drop-take, drop_all}
 use Rattle.std.proofs.lemmas.Bool.{cases_eq, cases_lt, cond-true, cond-false, eq-eqb, ne_eqb}
 use Rattle.stack.specs.Overruns.{Deliveries, added, all_added, More}
-use Rattle.stack.specs.Calls.{docs_for, Inside, Run}
+use Rattle.stack.specs.Calls.{docs_for, paired, Inside, Run}
 
 pub docs_none : (k : ℕ) (bs : List ℕ) → docs_for k bs [] ≡ []
 docs_none k [] = refl
@@ -41,10 +41,6 @@ docs_run k b (c ∷ bs) (d ∷ ds) f e =
 -- the pairs before a place
 abbrev pub before : List ℕ → List ℕ → ℕ → Deliveries
 before bs ds i k = docs_for k (take i bs) (take i ds)
-
--- all pairs
-abbrev pub paired : List ℕ → List ℕ → Deliveries
-paired bs ds k = docs_for k bs ds
 
 module _ (bs ds : List ℕ) (start end pairs : ℕ) (run : Run bs start pairs end) (lb : pairs ≤ length bs) (ld : pairs ≤ length ds) where
   part : List ℕ

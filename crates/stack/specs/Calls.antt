@@ -1,5 +1,5 @@
 -- What a call of a level or a cache promises, accepted or refused. `made` counts the rows made, here and below.
-use Rattle.std.specs.Prelude.{◌≡◌, ℕ, ◌+◌, ◌-◌, ◌^◌, ◌<◌, ◌≤◌, Bool, true, false, cond, ◌≢◌, List, [], ◌∷◌, length, ◌==◌, slice_index}
+use Rattle.std.specs.Prelude.{◌≡◌, ℕ, ◌+◌, ◌-◌, ◌^◌, ◌<◌, ◌≤◌, Bool, true, false, cond, ◌≢◌, List, [], ◌∷◌, length, ◌==◌, slice_index, Result, MatchResult}
 use Rattle.records.specs.declared.fault.Fault.{Fault}
 use Rattle.records.specs.declared.fault.Refusal.TheVariants.{AllowanceExceeded}
 use Rattle.limits.specs.declared.agg_limits.AggregationLimits.{AggregationLimits}
@@ -38,6 +38,46 @@ pub record Overran (from : ℕ) (plan : Plan) (slots : ℕ) (g : Seg) (before : 
   pub stopped : Stopped was is made makes f
   pub overrun : (n buckets others : ℕ) (D : Deliveries) → inside buckets → before n buckets D → was.used ≡ others + made → Overrun from plan.levels slots n g buckets (grows D) others was.limit f
 
+-- ---- what a clause says of a call
+
+-- a level or a cache, its slots and the limits, before or after the call
+abbrev pub State : Type 0 → Type 0 → Type 0
+State C T = C × List T × AggregationLimits
+
+-- which deliveries a level or a cache holds, with these slots, numbered n and below so many buckets
+abbrev pub Holds : Type 0 → Type 0 → Type 1
+Holds C T = C → List T → Seg → ℕ → ℕ → Deliveries → Type 0
+
+-- Went and Overran, of the states before and after
+abbrev pub Accepted : {C T : Type 0} → Holds C T → (C → Plan) → (C → ℕ) → Seg → (was is : State C T) → (ℕ → Type 0) → (Deliveries → Deliveries) → Type 0
+Accepted holds plan made g was is inside grows =
+    Went (holds was.0 was.1 g) (holds is.0 is.1 g) inside grows (plan was.0) (plan is.0) was.2 is.2 (made was.0) (made is.0)
+
+abbrev pub Refused : {C T : Type 0} → Holds C T → (C → Plan) → (C → ℕ) → Seg → (was is : State C T) → (ℕ → Type 0) → (Deliveries → Deliveries) → Fault → Type 0
+Refused holds plan made g was is inside grows f =
+    Overran 1 (plan was.0) (length was.1) g (holds was.0 was.1 g) inside grows was.2 is.2 (made was.0) (made is.0) f
+
+-- The call is accepted, or refused with a fault. It may come below as many buckets as are `inside`, and what was delivered
+-- before it grows as `grows` says.
+abbrev pub Handled : {C T V : Type 0} → Result V Fault → Holds C T → (C → Plan) → (C → ℕ) → Seg → (was is : State C T) → (ℕ → Type 0) → (Deliveries → Deliveries) → Type 0
+Handled result holds plan made g was is inside grows =
+    MatchResult result (λ _. Accepted holds plan made g was is inside grows) (λ f. Refused holds plan made g was is inside grows f)
+
+-- and if it is accepted, `also` holds
+abbrev pub HandledAnd : {C T V : Type 0} → (also : Type 0) → Result V Fault → Holds C T → (C → Plan) → (C → ℕ) → Seg → (was is : State C T) → (ℕ → Type 0) → (Deliveries → Deliveries) → Type 0
+HandledAnd also result holds plan made g was is inside grows =
+    MatchResult result (λ _. Accepted holds plan made g was is inside grows × also) (λ f. Refused holds plan made g was is inside grows f)
+
+-- the same of a call that is lent no segment: for every segment
+abbrev pub HandledForAll : {C T V : Type 0} → (also : Type 0) → Result V Fault → Holds C T → (C → Plan) → (C → ℕ) → (was is : State C T) → (ℕ → Type 0) → (Deliveries → Deliveries) → Type 0
+HandledForAll also result holds plan made was is inside grows =
+    MatchResult result (λ _. ((g : Seg) → Accepted holds plan made g was is inside grows) × also) (λ f. (g : Seg) → Refused holds plan made g was is inside grows f)
+
+-- If nothing waits and rows are made for every bucket, P holds of the documents delivered for this one, whatever is held.
+abbrev pub Ready : {C T : Type 0} → Holds C T → (settled : C → Type 0) → (prepared : C → ℕ → ℕ → Type 0) → C → List T → (bucket : ℕ) → (P : Seg → List ℕ → Type 0) → Type 0
+Ready holds settled prepared c slots bucket P =
+    (g : Seg) (n buckets : ℕ) (D : Deliveries) → settled c → prepared c (length slots) buckets → bucket < buckets → holds c slots g n buckets D → P g (D bucket)
+
 -- ---- pairs of a bucket number and a document
 
 -- the documents paired with a bucket, in order
@@ -45,6 +85,10 @@ abbrev pub docs_for : ℕ → (buckets docs : List ℕ) → List ℕ
 docs_for b [] docs = []
 docs_for b (k ∷ ks) [] = []
 docs_for b (k ∷ ks) (d ∷ ds) = cond (k == b) (d ∷ docs_for b ks ds) (docs_for b ks ds)
+
+-- those of each bucket
+abbrev pub paired : (buckets docs : List ℕ) → Deliveries
+paired buckets docs b = docs_for b buckets docs
 
 -- a run of equal bucket numbers, as long as it goes
 pub record Run (buckets : List ℕ) (start pairs end : ℕ) : Type 0 where

@@ -1,5 +1,5 @@
 -- The rows below a bucket, in path order.
-use Rattle.std.specs.Prelude.{◌≡◌, ℕ, ◌+◌, ◌<◌, List, [], ◌∷◌, ◌++◌, length, take, drop, ℤ, ◌<ℤ◌, Some, None, Option, slice_index_or}
+use Rattle.std.specs.Prelude.{◌≡◌, ℕ, ◌+◌, ◌<◌, ◌≤◌, List, [], ◌∷◌, ◌++◌, length, take, drop, ℤ, ◌<ℤ◌, Some, None, Option, slice_index_or}
 use Rattle.records.specs.Paths.{steps_of}
 use Rattle.records.specs.Rows.{Entry, entries}
 use Rattle.records.specs.declared.column_type.ColumnType.{ColumnType}
@@ -7,7 +7,7 @@ use Rattle.records.specs.declared.path.Path.{Path}
 use Rattle.records.specs.declared.row.Row.{Row}
 use Rattle.metrics.specs.Tallies.{fed_all}
 use Rattle.segments.specs.Segments.{Seg}
-use Rattle.stack.specs.Levels.{Lvl, row_docs, Step, values_of}
+use Rattle.stack.specs.Levels.{Lvl, Plan, row_docs, Step, values_of}
 
 -- the steps of the path above, none at the top
 abbrev pub above_steps : Option Path → List ℤ
@@ -35,6 +35,10 @@ abbrev pub row_worth : {W : Type 0} → Feeding W → List Lvl → ℕ → Colum
 row_worth f [] column t g docs = fed_all f.fed t (values_of g column docs) f.nothing
 row_worth f (l ∷ ls) column t g docs = f.nothing
 
+-- the same, by a plan
+abbrev pub tally_worth : {W : Type 0} → Feeding W → Plan → Seg → List ℕ → W
+tally_worth f plan g docs = row_worth f plan.levels plan.column plan.field_type g docs
+
 -- for each step its own row, then the rows below it
 abbrev pub Blocks : {W : Type 0} → (ℤ → Entry W) → (ℤ → List (Entry W) → Type 0) → List ℤ → List (Entry W) → Type 0
 Blocks own below [] es = es ≡ []
@@ -54,3 +58,8 @@ pub record Put {T W : Type 0} (worth : T → W) (was is : List (Row T)) (at end 
   pub whole : is ≡ take at was ++ (rows ++ drop end was)
   pub size : end ≡ at + length rows
   pub entries_are : entries worth rows ≡ es
+
+-- the rows of a plan below a bucket with these documents, under a path, are put into a slice if there is room for them all
+abbrev pub PutBelow : {T W : Type 0} → (T → W) → Feeding W → Plan → Seg → List ℤ → List ℕ → (was is : List (Row T)) → (at end : ℕ) → Type 0
+PutBelow {T} {W} worth f plan g above docs was is at end =
+    (es : List (Entry W)) × (Written f plan.column plan.field_type g plan.levels above docs es × (at + length es ≤ length was → Put worth was is at end es))

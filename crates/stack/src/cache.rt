@@ -2,15 +2,14 @@
 ghost use Rattle.std.specs.Prelude.{◌≡◌, ℕ, ◌+◌, ◌^◌, ◌<◌, ◌≤◌, Bool, true, false, not, List, [], ◌∷◌, ◌++◌, map, length, None, Option, MatchOption, MatchResult};
 ghost use Rattle.std.specs.List.{slice_get};
 ghost use Rattle.records.specs.Faults.{Answers};
-ghost use Rattle.records.specs.Rows.{Entry};
 ghost use Rattle.records.specs.declared.column_type.ColumnType.{ColumnType};
 ghost use Rattle.records.specs.declared.fault.Fault.{Fault};
 ghost use Rattle.buckets.specs.declared.range.RangeAggregationRange.{RangeAggregationRange};
 ghost use Rattle.segments.specs.Segments.{Seg};
 ghost use Rattle.stack.specs.Levels.{Plan, kind_of};
 ghost use Rattle.stack.specs.Overruns.{Deliveries, none_yet, added, all_added, Crowd, Complete};
-ghost use Rattle.stack.specs.Calls.{Went, Overran, Waits, Inside, Pushed};
-ghost use Rattle.stack.specs.Writing.{above_steps, row_worth, Written, Put};
+ghost use Rattle.stack.specs.Calls.{Handled, HandledAnd, HandledForAll, Ready, Waits, Inside, Pushed};
+ghost use Rattle.stack.specs.Writing.{above_steps, tally_worth, PutBelow};
 
 use buckets::range::RangeAggregationRange;
 use limits::agg_limits::AggregationLimits;
@@ -96,9 +95,9 @@ pub trait SubAggCache {
         limits: &mut AggregationLimits,
         slots: &mut [Self::Fruit],
     ) -> Result<(), Fault>
-        ensures { MatchResult result
-            (λ _. Went (stored self.old slots.old (S.means seg.now)) (stored self.new slots.new (S.means seg.now)) (Inside (waiting self.old)) (λ D. all_added D (waiting self.old)) (plan self.old) (plan self.new) limits.old limits.new (made self.old) (made self.new) × (pending self.new ≡ 0))
-            (λ f. Overran 1 (plan self.old) (length slots.old) (S.means seg.now) (stored self.old slots.old (S.means seg.now)) (Inside (waiting self.old)) (λ D. all_added D (waiting self.old)) limits.old limits.new (made self.old) (made self.new) f) };
+        ensures { HandledAnd (pending self.new ≡ 0) result stored plan made (S.means seg.now)
+            (self.old, slots.old, limits.old) (self.new, slots.new, limits.new)
+            (Inside (waiting self.old)) (λ D. all_added D (waiting self.old)) };
 
     /// Hands over, and has the level below hand on all it has, all the way down.
     fn flush<S: Segment>(
@@ -107,9 +106,9 @@ pub trait SubAggCache {
         limits: &mut AggregationLimits,
         slots: &mut [Self::Fruit],
     ) -> Result<(), Fault>
-        ensures { MatchResult result
-            (λ _. Went (stored self.old slots.old (S.means seg.now)) (stored self.new slots.new (S.means seg.now)) (Inside (waiting self.old)) (λ D. all_added D (waiting self.old)) (plan self.old) (plan self.new) limits.old limits.new (made self.old) (made self.new) × (pending self.new ≡ 0) × rests self.new)
-            (λ f. Overran 1 (plan self.old) (length slots.old) (S.means seg.now) (stored self.old slots.old (S.means seg.now)) (Inside (waiting self.old)) (λ D. all_added D (waiting self.old)) limits.old limits.new (made self.old) (made self.new) f) };
+        ensures { HandledAnd ((pending self.new ≡ 0) × rests self.new) result stored plan made (S.means seg.now)
+            (self.old, slots.old, limits.old) (self.new, slots.new, limits.new)
+            (Inside (waiting self.old)) (λ D. all_added D (waiting self.old)) };
 
     fn prepare_max_bucket(
         &mut self,
@@ -117,15 +116,17 @@ pub trait SubAggCache {
         slots: &[Self::Fruit],
         buckets: u32,
     ) -> Result<(), Fault>
-        ensures { MatchResult result
-            (λ _. ((g : Seg) → Went (stored self.old slots.now g) (stored self.new slots.now g) (λ b. buckets ≤ b) (λ D. D) (plan self.old) (plan self.new) limits.old limits.new (made self.old) (made self.new)) × (waiting self.new ≡ waiting self.old) × (pending self.new ≡ pending self.old) × (rests self.old → rests self.new) × prepared self.new (length slots.now) buckets)
-            (λ f. ((g : Seg) → Overran 1 (plan self.old) (length slots.now) g (stored self.old slots.now g) (λ b. buckets ≤ b) (λ D. D) limits.old limits.new (made self.old) (made self.new) f)) };
+        ensures { HandledForAll ((waiting self.new ≡ waiting self.old) × (pending self.new ≡ pending self.old) × (rests self.old → rests self.new) × prepared self.new (length slots.now) buckets)
+            result stored plan made
+            (self.old, slots.now, limits.old) (self.new, slots.now, limits.new)
+            (λ b. buckets ≤ b) (λ D. D) };
 
     fn num_rows(&self) -> Option<usize>
         ensures { MatchOption result (2 ^ 64 ≤ made self.now) (λ n. n ≡ made self.now) };
 
     fn tally_of(&self, slots: &[Self::Fruit], bucket: u32) -> Self::Fruit
-        ensures { (g : Seg) (n buckets : ℕ) (D : Deliveries) → rests self.now → prepared self.now (length slots.now) buckets → bucket < buckets → stored self.now slots.now g n buckets D → Self.Fruit.Tally.worth result ≡ row_worth record { nothing = Self.Fruit.Tally.nothing; fed = Self.Fruit.Tally.fed } (plan self.now).levels (plan self.now).column (plan self.now).field_type g (D bucket) };
+        ensures { Ready stored rests prepared self.now slots.now bucket
+            (λ g docs. Self.Fruit.worth result ≡ tally_worth record { nothing = Self.Fruit.nothing; fed = Self.Fruit.fed } (plan self.now) g docs) };
 
     fn write_rows(
         &self,
@@ -135,7 +136,9 @@ pub trait SubAggCache {
         out: &mut [Row<Self::Fruit>],
         at: usize,
     ) -> usize
-        ensures { (g : Seg) (n buckets : ℕ) (D : Deliveries) → rests self.now → prepared self.now (length slots.now) buckets → bucket < buckets → stored self.now slots.now g n buckets D → length (above_steps above) + length (plan self.now).levels ≤ 3 → (es : List (Entry Self.Fruit.Tally.Worth)) × (Written record { nothing = Self.Fruit.Tally.nothing; fed = Self.Fruit.Tally.fed } (plan self.now).column (plan self.now).field_type g (plan self.now).levels (above_steps above) (D bucket) es × (at + length es ≤ length out.old → Put Self.Fruit.Tally.worth out.old out.new at result es)) };
+        ensures { Ready stored rests prepared self.now slots.now bucket
+            (λ g docs. length (above_steps above) + length (plan self.now).levels ≤ 3
+            → PutBelow Self.Fruit.worth record { nothing = Self.Fruit.nothing; fed = Self.Fruit.fed } (plan self.now) g (above_steps above) docs out.old out.new at result) };
 
     fn kind_at(&self, down: u32) -> Option<Kind>
         ensures { result ≡ slice_get (map kind_of (plan self.now).levels) down };

@@ -2,15 +2,14 @@
 ghost use Rattle.std.specs.Prelude.{◌≡◌, ℕ, ◌+◌, ◌^◌, ◌<◌, ◌≤◌, List, [], map, length, None, Option, MatchOption, MatchResult};
 ghost use Rattle.std.specs.List.{slice_get};
 ghost use Rattle.records.specs.Faults.{Answers};
-ghost use Rattle.records.specs.Rows.{Entry};
 ghost use Rattle.records.specs.declared.column_type.ColumnType.{ColumnType};
 ghost use Rattle.records.specs.declared.fault.Fault.{Fault};
 ghost use Rattle.buckets.specs.declared.range.RangeAggregationRange.{RangeAggregationRange};
 ghost use Rattle.segments.specs.Segments.{Seg};
 ghost use Rattle.stack.specs.Levels.{Plan, kind_of};
 ghost use Rattle.stack.specs.Overruns.{Deliveries, none_yet, added, all_added, Crowd, Complete};
-ghost use Rattle.stack.specs.Calls.{Went, Overran, Inside, docs_for, Run};
-ghost use Rattle.stack.specs.Writing.{above_steps, row_worth, Written, Put};
+ghost use Rattle.stack.specs.Calls.{Handled, HandledAnd, HandledForAll, Ready, Inside, paired, Run};
+ghost use Rattle.stack.specs.Writing.{above_steps, tally_worth, PutBelow};
 
 use buckets::range::RangeAggregationRange;
 use limits::agg_limits::AggregationLimits;
@@ -83,9 +82,9 @@ pub trait SegmentAggregationCollector {
         bucket: u32,
         docs: &[u32],
     ) -> Result<(), Fault>
-        ensures { MatchResult result
-            (λ _. Went (holds self.old slots.old (S.means seg.now)) (holds self.new slots.new (S.means seg.now)) (λ b. bucket < b) (λ D. added D bucket docs.now) (plan self.old) (plan self.new) limits.old limits.new (made self.old) (made self.new))
-            (λ f. Overran 1 (plan self.old) (length slots.old) (S.means seg.now) (holds self.old slots.old (S.means seg.now)) (λ b. bucket < b) (λ D. added D bucket docs.now) limits.old limits.new (made self.old) (made self.new) f) };
+        ensures { Handled result holds plan made (S.means seg.now)
+            (self.old, slots.old, limits.old) (self.new, slots.new, limits.new)
+            (λ b. bucket < b) (λ D. added D bucket docs.now) };
 
     /// Takes documents for several buckets, each paired with its bucket's number: each run of equal numbers in one go.
     fn collect_multiple<S: Segment>(
@@ -96,9 +95,9 @@ pub trait SegmentAggregationCollector {
         bucket_ids: &[u32],
         docs: &[u32],
     ) -> Result<(), Fault>
-        ensures { MatchResult result
-            (λ _. Went (holds self.old slots.old (S.means seg.now)) (holds self.new slots.new (S.means seg.now)) (Inside (λ b. docs_for b bucket_ids.now docs.now)) (λ D. all_added D (λ b. docs_for b bucket_ids.now docs.now)) (plan self.old) (plan self.new) limits.old limits.new (made self.old) (made self.new))
-            (λ f. Overran 1 (plan self.old) (length slots.old) (S.means seg.now) (holds self.old slots.old (S.means seg.now)) (Inside (λ b. docs_for b bucket_ids.now docs.now)) (λ D. all_added D (λ b. docs_for b bucket_ids.now docs.now)) limits.old limits.new (made self.old) (made self.new) f) }
+        ensures { Handled result holds plan made (S.means seg.now)
+            (self.old, slots.old, limits.old) (self.new, slots.new, limits.new)
+            (Inside (paired bucket_ids.now docs.now)) (λ D. all_added D (paired bucket_ids.now docs.now)) }
     {
         let pairs = bucket_ids.len().min(docs.len());
         let mut start = 0;
@@ -117,9 +116,9 @@ pub trait SegmentAggregationCollector {
         limits: &mut AggregationLimits,
         slots: &mut [Self::Fruit],
     ) -> Result<(), Fault>
-        ensures { MatchResult result
-            (λ _. Went (holds self.old slots.old (S.means seg.now)) (holds self.new slots.new (S.means seg.now)) (λ b. Unit {0}) (λ D. D) (plan self.old) (plan self.new) limits.old limits.new (made self.old) (made self.new) × settled self.new)
-            (λ f. Overran 1 (plan self.old) (length slots.old) (S.means seg.now) (holds self.old slots.old (S.means seg.now)) (λ b. Unit {0}) (λ D. D) limits.old limits.new (made self.old) (made self.new) f) };
+        ensures { HandledAnd (settled self.new) result holds plan made (S.means seg.now)
+            (self.old, slots.old, limits.old) (self.new, slots.new, limits.new)
+            (λ b. Unit {0}) (λ D. D) };
 
     /// Makes the rows that always stand, for every bucket below `buckets`, here and below.
     fn prepare_max_bucket(
@@ -128,9 +127,10 @@ pub trait SegmentAggregationCollector {
         slots: &[Self::Fruit],
         buckets: u32,
     ) -> Result<(), Fault>
-        ensures { MatchResult result
-            (λ _. ((g : Seg) → Went (holds self.old slots.now g) (holds self.new slots.now g) (λ b. buckets ≤ b) (λ D. D) (plan self.old) (plan self.new) limits.old limits.new (made self.old) (made self.new)) × (settled self.old → settled self.new) × prepared self.new (length slots.now) buckets)
-            (λ f. ((g : Seg) → Overran 1 (plan self.old) (length slots.now) g (holds self.old slots.now g) (λ b. buckets ≤ b) (λ D. D) limits.old limits.new (made self.old) (made self.new) f)) };
+        ensures { HandledForAll ((settled self.old → settled self.new) × prepared self.new (length slots.now) buckets)
+            result holds plan made
+            (self.old, slots.now, limits.old) (self.new, slots.now, limits.new)
+            (λ b. buckets ≤ b) (λ D. D) };
 
     /// How many rows were made, here and below; none where they are 2^64 or more.
     fn num_rows(&self) -> Option<usize>
@@ -138,7 +138,8 @@ pub trait SegmentAggregationCollector {
 
     /// The tally of the bucket's row in the level above: what the bottom keeps for it, and the empty one above that.
     fn tally_of(&self, slots: &[Self::Fruit], bucket: u32) -> Self::Fruit
-        ensures { (g : Seg) (n buckets : ℕ) (D : Deliveries) → settled self.now → prepared self.now (length slots.now) buckets → bucket < buckets → holds self.now slots.now g n buckets D → Self.Fruit.Tally.worth result ≡ row_worth record { nothing = Self.Fruit.Tally.nothing; fed = Self.Fruit.Tally.fed } (plan self.now).levels (plan self.now).column (plan self.now).field_type g (D bucket) };
+        ensures { Ready holds settled prepared self.now slots.now bucket
+            (λ g docs. Self.Fruit.worth result ≡ tally_worth record { nothing = Self.Fruit.nothing; fed = Self.Fruit.fed } (plan self.now) g docs) };
 
     /// Writes the rows below a bucket in path order from `at` on, if there is room for all of them, and says where they end.
     fn write_rows(
@@ -149,7 +150,9 @@ pub trait SegmentAggregationCollector {
         out: &mut [Row<Self::Fruit>],
         at: usize,
     ) -> usize
-        ensures { (g : Seg) (n buckets : ℕ) (D : Deliveries) → settled self.now → prepared self.now (length slots.now) buckets → bucket < buckets → holds self.now slots.now g n buckets D → length (above_steps above) + length (plan self.now).levels ≤ 3 → (es : List (Entry Self.Fruit.Tally.Worth)) × (Written record { nothing = Self.Fruit.Tally.nothing; fed = Self.Fruit.Tally.fed } (plan self.now).column (plan self.now).field_type g (plan self.now).levels (above_steps above) (D bucket) es × (at + length es ≤ length out.old → Put Self.Fruit.Tally.worth out.old out.new at result es)) };
+        ensures { Ready holds settled prepared self.now slots.now bucket
+            (λ g docs. length (above_steps above) + length (plan self.now).levels ≤ 3
+            → PutBelow Self.Fruit.worth record { nothing = Self.Fruit.nothing; fed = Self.Fruit.fed } (plan self.now) g (above_steps above) docs out.old out.new at result) };
 
     /// The kind of the level so far down; none past the last.
     fn kind_at(&self, down: u32) -> Option<Kind>

@@ -30,6 +30,5 @@ returns g c =
           (level.holds was.below c.args.slots.now seg) (level.holds half.self.below half.slots seg) (level.plan was.below) (level.plan half.self.below)
           c.args.limits.now half.limits end.limits (level.made was.below) (level.made half.self.below) (level.made end.self)
           c.in_ok-hand_over.ensures.0 (level.holds end.self end.slots seg) (level.plan end.self) c.in_ok-flush.ensures.0,
-      c.in_ok-hand_over.ensures.1,
-      c.in_ok-flush.ensures.1,
+      (c.in_ok-hand_over.ensures.1, c.in_ok-flush.ensures.1),
     )

@@ -27,6 +27,6 @@ returns g c =
     let h = c.in_ok-flush.ensures in (
       carried_went t seg (cache.stored was slots seg) (cache.stored is c.flush.new.slots seg) (cache.waiting was) (cache.waiting is) (λ b. Unit {0}) (cache.plan was) (cache.plan is) c.args.limits.now c.flush.new.limits (cache.made was) (cache.made is)
           (hand_went (cache.stored was slots seg) (cache.stored is c.flush.new.slots seg) (cache.waiting was) (cache.waiting is) (cache.plan was) (cache.plan is) c.args.limits.now c.flush.new.limits (cache.made was) (cache.made is)
-          (waits_none (cache.waiting is) (cache.pending is) (g.met.C.SubAggCache.waits is) h.1) h.0),
-      (h.1, h.2),
+          (waits_none (cache.waiting is) (cache.pending is) (g.met.C.SubAggCache.waits is) h.1.0) h.0),
+      h.1,
     )

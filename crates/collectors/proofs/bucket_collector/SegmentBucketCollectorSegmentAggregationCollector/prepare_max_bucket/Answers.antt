@@ -63,7 +63,6 @@ returns g c =
           (prepared_went t u (g.met.K.RowTable.sound c.prepare.new.self) seg (cache.stored was slots seg) (cache.waiting was) c.args.buckets (cache.plan was) c.args.limits.now c.prepare.new.limits (cache.made was) (λ n R S D l h. g.met.C.SubAggCache.wider was slots seg n R S D l h) c.in_ok-prepare.ensures)
           (carried_by u seg (cache.stored was slots seg) (cache.stored is slots seg) (cache.waiting was) (cache.waiting is) (λ b. R ≤ b) (λ b. c.args.buckets ≤ b) (cache.plan was) (cache.plan is) c.prepare.new.limits c.prepare_max_bucket.new.limits (cache.made was) (cache.made is)
           (λ n E r. omega (arith, c.num_rows-rows.ensures))
-          (below_went (cache.stored was slots seg) (cache.stored is slots seg) (cache.waiting was) (cache.waiting is) R (cache.plan was) (cache.plan is) c.prepare.new.limits c.prepare_max_bucket.new.limits (cache.made was) (cache.made is) done.1 (done.0 seg)))),
-      (λ s. (done.2 ∙ s.0, done.3 s.1)),
-      (c.in_ok-prepare.ensures.complete, subst (λ (k : ℕ). cache.prepared is (length slots) k) c.num_rows-rows.ensures done.4),
+          (below_went (cache.stored was slots seg) (cache.stored is slots seg) (cache.waiting was) (cache.waiting is) R (cache.plan was) (cache.plan is) c.prepare.new.limits c.prepare_max_bucket.new.limits (cache.made was) (cache.made is) done.1.0 (done.0 seg)))),
+      ((λ s. (done.1.1 ∙ s.0, done.1.2 s.1)), (c.in_ok-prepare.ensures.complete, subst (λ (k : ℕ). cache.prepared is (length slots) k) c.num_rows-rows.ensures done.1.3)),
     )

@@ -3,9 +3,9 @@ use Rattle.std.proofs.Common.{ℕ, ◌-◌, ◌<◌, ◌≤◌, ◌⊎◌, lengt
 use Rattle.std.proofs.lemmas.Result.{err_from_is_err_and}
 use Rattle.std.proofs.lemmas.Bool.{cases_lt}
 use Rattle.stack.specs.Overruns.{Deliveries, added, all_added, More}
-use Rattle.stack.specs.Calls.{Inside, Overran}
+use Rattle.stack.specs.Calls.{Inside, Overran, paired}
 use Rattle.stack.proofs.Chaining.{went_none, went_then, went_overran}
-use Rattle.stack.proofs.Pairing.{before, paired, before-run, run_inside, before_more, before_none, before_all}
+use Rattle.stack.proofs.Pairing.{before, before-run, run_inside, before_more, before_none, before_all}
 use Rattle.stack.proofs.level.SegmentAggregationCollector.collect_multiple.Goals as goal
 
 pub loop-start-init : goal.loop-start-init

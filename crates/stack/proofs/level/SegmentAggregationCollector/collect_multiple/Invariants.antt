@@ -1,8 +1,8 @@
 -- The runs before `start` are delivered.
 use Rattle.std.proofs.Common.{◌-◌, ◌≤◌}
 use Rattle.stack.specs.Overruns.{all_added}
-use Rattle.stack.specs.Calls.{Went, Inside}
-use Rattle.stack.proofs.Pairing.{before, paired}
+use Rattle.stack.specs.Calls.{Went, Inside, paired}
+use Rattle.stack.proofs.Pairing.{before}
 use Rattle.stack.proofs.level.SegmentAggregationCollector.collect_multiple.Given as goal
 
 abbrev pub invariant-loop-start : goal.invariant-loop-start
