@@ -1,5 +1,5 @@
 -- What a histogram level's table shows, and what a request asks for.
-use Rattle.std.specs.Prelude.{◌≡◌, ℕ, ◌+◌, ◌<◌, ◌≤◌, true, List, take, ℤ, Some, None, filter, Option, nat_eq, slice_index, slice_set}
+use Rattle.std.specs.Prelude.{◌≡◌, ℕ, ◌<◌, ◌≤◌, true, List, take, ℤ, Some, None, filter, Option, nat_eq, slice_index, slice_set}
 use Rattle.std.specs.Option.{unwrap_or}
 use Rattle.records.specs.declared.column_type.ColumnType.{ColumnType}
 use Rattle.records.specs.declared.column_type.ColumnType.TheVariants.{U64}

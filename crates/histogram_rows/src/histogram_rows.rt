@@ -5,7 +5,7 @@ ghost use Rattle.histogram_rows.specs.Index.{slot_at, Precedes, among};
 use crate::slot::Slot;
 use buckets::grid::Grid;
 use records::column_type::ColumnType;
-use rows::counts::Counts;
+use rows::counts::{Counts, MOST_ROWS};
 
 /// The rows of a histogram level, numbered in the order of making: for each its slot and its count.
 ///
@@ -14,8 +14,8 @@ use rows::counts::Counts;
 #[derive(Clone, Copy)]
 pub struct HistogramRows {
     pub(crate) counts: Counts,
-    pub(crate) slots: [Slot; 512],
-    pub(crate) order: [usize; 512],
+    pub(crate) slots: [Slot; MOST_ROWS],
+    pub(crate) order: [usize; MOST_ROWS],
     /// The row that was found last.
     pub(crate) last: usize,
     pub(crate) grid: Grid,

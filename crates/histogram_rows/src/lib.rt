@@ -6,7 +6,7 @@ pub mod histogram_rows;
 mod index;
 mod making;
 pub mod request;
-pub mod slot;
+mod slot;
 pub mod table;
 
 #[cfg(test)]

@@ -3,7 +3,7 @@
 /// What a row is for: a bucket of the level above, and the position of a slot below it. Slots are in order by bucket and
 /// then by position.
 #[derive(Clone, Copy, PartialEq, Eq, PartialOrd, Ord)]
-pub struct Slot {
+pub(crate) struct Slot {
     pub(crate) bucket: u32,
     pub(crate) position: i64,
 }
