@@ -1,34 +1,30 @@
 //! A histogram level's table, apart from its functions, so that specs can name it.
-ghost use Rattle.std.specs.Prelude.{◌≡◌, ℕ, ◌-◌, ◌^◌, ◌<◌, ◌≤◌, true, false, length, take, pos, negsuc, int_lt, slice_index, slice_index_or};
-ghost use Rattle.histogram_rows.specs.Index.{Precedes, among};
+ghost use Rattle.std.specs.Prelude.{◌≡◌, ℕ, ◌-◌, ◌^◌, ◌<◌, true, false, length, take, negsuc, int_lt, slice_index};
+ghost use Rattle.histogram_rows.specs.Index.{slot_at, Precedes, among};
 
+use crate::slot::Slot;
 use buckets::grid::Grid;
 use records::column_type::ColumnType;
+use rows::counts::{Counts, MOST_ROWS};
 
-/// The rows of a histogram level, numbered in the order of making: for each the bucket of the level above, the position
-/// of its slot, and its count. At most 512 rows are kept.
+/// The rows of a histogram level, numbered in the order of making: for each its slot and its count.
 ///
-/// Beside them `order` lists the rows' numbers, rising by bucket and then by position.
+/// Beside them `order` lists the rows' numbers, rising by slot.
+// A sorted index in place of a map: tables are Copy and need no heap.
 #[derive(Clone, Copy)]
 pub struct HistogramRows {
-    pub(crate) rows: usize,
-    pub(crate) buckets: [u32; 512],
-    pub(crate) positions: [i64; 512],
-    pub(crate) counts: [u64; 512],
-    pub(crate) order: [usize; 512],
+    pub(crate) counts: Counts,
+    pub(crate) slots: [Slot; MOST_ROWS],
+    pub(crate) order: [usize; MOST_ROWS],
     /// The row that was found last.
     pub(crate) last: usize,
     pub(crate) grid: Grid,
     pub(crate) field_type: ColumnType,
     pub(crate) column: u32,
-    pub(crate) number: u32,
-    ghost few: { rows ≤ 512 },
-    ghost long_buckets: { length buckets ≡ 512 },
-    ghost long_positions: { length positions ≡ 512 },
-    ghost long_counts: { length counts ≡ 512 },
+    ghost long_slots: { length slots ≡ 512 },
     ghost long_order: { length order ≡ 512 },
-    ghost least: { (k : ℕ) → k < rows → int_lt (slice_index_or positions k (pos 0)) (negsuc (2 ^ 63 - 1)) ≡ false },
-    ghost inside: { (i : ℕ) → i < rows → slice_index order i < rows },
-    ghost all: { (k : ℕ) → k < rows → among k (take rows order) ≡ true },
-    ghost rises: { (i j : ℕ) → (i < j) × (j < rows) → Precedes buckets positions (slice_index order i) (slice_index order j) },
+    ghost least: { (k : ℕ) → k < counts.rows → int_lt (slot_at slots k).position (negsuc (2 ^ 63 - 1)) ≡ false },
+    ghost inside: { (i : ℕ) → i < counts.rows → slice_index order i < counts.rows },
+    ghost all: { (k : ℕ) → k < counts.rows → among k (take counts.rows order) ≡ true },
+    ghost rises: { (i j : ℕ) → (i < j) × (j < counts.rows) → Precedes slots (slice_index order i) (slice_index order j) },
 }

@@ -6,6 +6,7 @@ pub mod histogram_rows;
 mod index;
 mod making;
 pub mod request;
+mod slot;
 pub mod table;
 
 #[cfg(test)]
@@ -44,11 +45,8 @@ mod tests {
         rows
     }
 
-    fn refusal<T: Drop>(r: Result<T, Fault>) -> (u8, u32) {
-        match r {
-            Ok(_) => (0, 0),
-            Err(fault) => (fault.refusal.number(), fault.level),
-        }
+    fn refusal<T: Drop>(r: Result<T, Fault>) -> Option<(u8, u32)> {
+        r.err().map(|fault| (fault.refusal.number(), fault.level))
     }
 
     #[test]
@@ -62,7 +60,7 @@ mod tests {
             assert!(rt; rows.row_for(&mut limits, 3, val).is_ok());
         }
         assert_eq!(rt; rows.num_rows(), 512);
-        assert_eq!(rt; refusal(rows.row_for(&mut limits, 3, 512)), (11, 2));
+        assert_eq!(rt; refusal(rows.row_for(&mut limits, 3, 512)), Some((11, 2)));
         assert_eq!(rt;
             rows.row_for(&mut limits, 3, 511).unwrap_or(None),
             Some(511)
@@ -77,16 +75,13 @@ mod tests {
         assert!(rt; rows.row_for(&mut limits, 0, 19).is_ok());
         assert!(rt; rows.row_for(&mut limits, 0, 10).is_ok());
         assert!(rt; rows.row_for(&mut limits, 1, 10).is_ok());
-        assert_eq!(rt; refusal(rows.row_for(&mut limits, 1, 20)), (12, 2));
+        assert_eq!(rt; refusal(rows.row_for(&mut limits, 1, 20)), Some((12, 2)));
         assert_eq!(rt; rows.num_rows(), 2);
         assert_eq!(rt; limits.used, 3);
     }
 
     fn step(rows: &HistogramRows, bucket: u32, index: usize) -> Option<i64> {
-        match rows.row_at(bucket, index) {
-            Some(row) => Some(rows.step_of(row)),
-            None => None,
-        }
+        rows.row_at(bucket, index).map(|row| rows.step_of(row))
     }
 
     fn steps(rows: &HistogramRows, bucket: u32) -> [Option<i64>; 3] {

@@ -8,6 +8,7 @@ ghost use Rattle.histogram_rows.specs.Listing;
 
 use crate::histogram_rows::HistogramRows;
 use crate::request::HistogramRequest;
+use crate::slot::Slot;
 use buckets::grid::Grid;
 use buckets::histogram::validate_histogram;
 use buckets::range::RangeAggregationRange;
@@ -16,6 +17,7 @@ use numbers::fast_field::f64_from_fastfield_u64;
 use records::column_type::ColumnType;
 use records::fault::{Fault, Refusal};
 use records::kind::Kind;
+use rows::counts::{Counts, MOST_ROWS};
 use rows::table::RowTable;
 use segments::segment::Segment;
 
@@ -25,11 +27,12 @@ impl HistogramRows {
         ensures { ((table_of result).rows ≡ 0) × ((table_of result).number ≡ 0) }
     {
         HistogramRows {
-            rows: 0,
-            buckets: [0; 512],
-            positions: [0; 512],
-            counts: [0; 512],
-            order: [0; 512],
+            counts: Counts::new(0),
+            slots: [Slot {
+                bucket: 0,
+                position: 0,
+            }; MOST_ROWS],
+            order: [0; MOST_ROWS],
             last: 0,
             grid: Grid {
                 interval: 1.0,
@@ -40,7 +43,6 @@ impl HistogramRows {
             },
             field_type: ColumnType::U64,
             column: 0,
-            number: 0,
         }
     }
 
@@ -74,14 +76,9 @@ impl RowTable for HistogramRows {
         seg: &S,
         level: u32,
     ) -> Result<(), Fault> {
-        match seg.column_type(request.column) {
-            None => Err(Fault {
-                refusal: Refusal::UnknownColumn,
-                level,
-                place: 0,
-            }),
-            Some(field_type) => validate_histogram(&request.aggregation, field_type, level),
-        }
+        let unknown = Refusal::UnknownColumn.at(level);
+        let field_type = seg.column_type(request.column).ok_or(unknown)?;
+        validate_histogram(&request.aggregation, field_type, level)
     }
 
     fn reset<S: Segment>(
@@ -95,8 +92,7 @@ impl RowTable for HistogramRows {
         self.grid = Grid::new(&request.aggregation, field_type);
         self.field_type = field_type;
         self.column = request.column;
-        self.number = level;
-        self.rows = 0;
+        self.counts.reset(level);
     }
 
     fn column(&self) -> u32 {
@@ -108,11 +104,11 @@ impl RowTable for HistogramRows {
     }
 
     fn number(&self) -> u32 {
-        self.number
+        self.counts.level
     }
 
     fn num_rows(&self) -> usize {
-        self.rows
+        self.counts.num_rows()
     }
 
     /// Nothing: a histogram's rows stand only where a value was counted.
@@ -126,31 +122,15 @@ impl RowTable for HistogramRows {
         bucket: u32,
         val: u64,
     ) -> Result<Option<usize>, Fault> {
-        match self.position_of(val) {
-            None => Ok(None),
-            Some(position) => {
-                let row = self.row_of(limits, bucket, position)?;
-                Ok(Some(row))
-            }
-        }
+        let Some(position) = self.position_of(val) else {
+            return Ok(None);
+        };
+        let row = self.row_of(limits, Slot { bucket, position })?;
+        Ok(Some(row))
     }
 
     fn count_up(&mut self, row: usize) -> Result<(), Fault> {
-        let full = Fault {
-            refusal: Refusal::CountOverflow,
-            level: self.number,
-            place: 0,
-        };
-        if row >= self.rows {
-            return Err(full);
-        }
-        match self.counts[row].checked_add(1) {
-            None => Err(full),
-            Some(count) => {
-                self.counts[row] = count;
-                Ok(())
-            }
-        }
+        self.counts.count_up(row)
     }
 
     fn row_at(&self, bucket: u32, index: usize) -> Option<usize> {
@@ -159,14 +139,14 @@ impl RowTable for HistogramRows {
     }
 
     fn step_of(&self, row: usize) -> i64 {
-        if row < self.rows {
-            self.positions[row]
+        if row < self.counts.num_rows() {
+            self.slots[row].position
         } else {
             0
         }
     }
 
     fn count_of(&self, row: usize) -> u64 {
-        if row < self.rows { self.counts[row] } else { 0 }
+        self.counts.count_of(row)
     }
 }

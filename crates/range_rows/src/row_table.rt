@@ -34,14 +34,9 @@ impl RowTable for RangeRows {
         seg: &S,
         level: u32,
     ) -> Result<(), Fault> {
-        match seg.column_type(request.column) {
-            None => Err(Fault {
-                refusal: Refusal::UnknownColumn,
-                level,
-                place: 0,
-            }),
-            Some(field_type) => validate_ranges(request.ranges(ranges), field_type, level),
-        }
+        let unknown = Refusal::UnknownColumn.at(level);
+        let field_type = seg.column_type(request.column).ok_or(unknown)?;
+        validate_ranges(request.ranges(ranges), field_type, level)
     }
 
     fn reset<S: Segment>(
@@ -53,9 +48,8 @@ impl RowTable for RangeRows {
     ) {
         let field_type = seg.column_type(request.column).unwrap_or(ColumnType::U64);
         self.tiling = extend_ranges(request.ranges(ranges), field_type);
-        self.rows = 0;
+        self.counts.reset(level);
         self.column = request.column;
-        self.number = level;
     }
 
     fn column(&self) -> u32 {
@@ -67,17 +61,16 @@ impl RowTable for RangeRows {
     }
 
     fn number(&self) -> u32 {
-        self.number
+        self.counts.level
     }
 
     fn num_rows(&self) -> usize {
-        self.rows
+        self.counts.num_rows()
     }
 
     fn prepare(&mut self, limits: &mut AggregationLimits, buckets: u32) -> Result<(), Fault> {
         let wanted = self.first_row(buckets);
-        self.make_rows(limits, wanted)?;
-        Ok(())
+        self.make_rows(limits, wanted)
     }
 
     fn row_for(
@@ -87,28 +80,12 @@ impl RowTable for RangeRows {
         val: u64,
     ) -> Result<Option<usize>, Fault> {
         let wanted = self.first_row(bucket) + self.tiling.num_tiles();
-        if self.rows < wanted {
-            self.make_rows(limits, wanted)?;
-        }
+        self.make_rows(limits, wanted)?;
         Ok(Some(self.row_of(bucket, val)))
     }
 
     fn count_up(&mut self, row: usize) -> Result<(), Fault> {
-        let full = Fault {
-            refusal: Refusal::CountOverflow,
-            level: self.number,
-            place: 0,
-        };
-        if row >= self.rows {
-            return Err(full);
-        }
-        match self.counts[row].checked_add(1) {
-            Some(count) => {
-                self.counts[row] = count;
-                Ok(())
-            }
-            None => Err(full),
-        }
+        self.counts.count_up(row)
     }
 
     fn row_at(&self, bucket: u32, index: usize) -> Option<usize> {
@@ -116,7 +93,7 @@ impl RowTable for RangeRows {
             return None;
         }
         let row = self.first_row(bucket) + index;
-        if row < self.rows { Some(row) } else { None }
+        (row < self.counts.num_rows()).then_some(row)
     }
 
     fn step_of(&self, row: usize) -> i64 {
@@ -124,7 +101,7 @@ impl RowTable for RangeRows {
     }
 
     fn count_of(&self, row: usize) -> u64 {
-        if row < self.rows { self.counts[row] } else { 0 }
+        self.counts.count_of(row)
     }
 }
 
@@ -165,11 +142,8 @@ mod tests {
         table
     }
 
-    fn refusal(r: Result<(), Fault>) -> (u8, u32) {
-        match r {
-            Ok(()) => (0, 0),
-            Err(f) => (f.refusal.number(), f.level),
-        }
+    fn refusal(r: Result<(), Fault>) -> Option<(u8, u32)> {
+        r.err().map(|f| (f.refusal.number(), f.level))
     }
 
     #[test]
@@ -195,9 +169,9 @@ mod tests {
             used: 0,
         };
         let mut table = four_tiles();
-        assert_eq!(rt; refusal(table.prepare(&mut limits, 128)), (0, 0));
+        assert_eq!(rt; refusal(table.prepare(&mut limits, 128)), None);
         assert_eq!(rt; table.num_rows(), 512);
-        assert_eq!(rt; refusal(table.prepare(&mut limits, 129)), (11, 3));
+        assert_eq!(rt; refusal(table.prepare(&mut limits, 129)), Some((11, 3)));
         assert_eq!(rt; table.num_rows(), 512);
         assert_eq!(rt; limits.used, 512);
     }
@@ -206,7 +180,7 @@ mod tests {
     fn an_allowance_one_short(rt: HostRuntime) {
         let mut limits = AggregationLimits { limit: 7, used: 0 };
         let mut table = four_tiles();
-        assert_eq!(rt; refusal(table.prepare(&mut limits, 2)), (12, 3));
+        assert_eq!(rt; refusal(table.prepare(&mut limits, 2)), Some((12, 3)));
         assert_eq!(rt; table.num_rows(), 7);
         assert_eq!(rt; limits.used, 8);
         assert_eq!(rt; table.row_at(1, 2), Some(6));

@@ -19,5 +19,5 @@ returns g c =
     let made = subst (λ rs. (level : ℕ) → range_fault level c.unwrap_or-field_type.result rs ≡ None → starts ≡ tiling_of c.unwrap_or-field_type.result rs) c.ranges-2.ensures c.extend_ranges-self.ensures.value in
     record {
       plans = λ h. ap (range_level q.column) (where_accepted type-of own c.args.level starts h (subst (λ t. (level : ℕ) → range_fault level t own ≡ None → starts ≡ tiling_of t own) e made));
-      empties = (refl, refl);
+      empties = c.reset.ensures;
     }

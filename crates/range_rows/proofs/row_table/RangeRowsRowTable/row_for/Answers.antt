@@ -2,10 +2,9 @@
 use Rattle.std.proofs.Common.{◌≡◌, ◌+◌, ◌*◌, ◌∙◌, ap₂, add-mul, arith}
 use Rattle.std.proofs.lemmas.Result.{err_from_is_err_and}
 use Rattle.rows.specs.Tables.{unprepared}
-use Rattle.range_rows.specs.Shown.{tiles_of, Made}
-use Rattle.range_rows.specs.Numbering.{row_found, not_prepared, already}
+use Rattle.range_rows.specs.Shown.{tiles_of}
+use Rattle.range_rows.specs.Numbering.{row_found, not_prepared}
 use Rattle.range_rows.proofs.row_table.RangeRowsRowTable.row_for.Goals as goal
-use Rattle.range_rows.proofs.row_table.RangeRowsRowTable.row_for.Goals.{then-self-wanted+in_ok-make_rows, else-self-wanted}
 
 pub returns-in_err-make_rows : goal.returns-in_err-make_rows
 returns-in_err-make_rows c =
@@ -18,12 +17,6 @@ returns-in_err-make_rows c =
 pub returns : goal.returns
 returns c =
     let was = c.args.self.now in
-    let is = c.if-self-wanted.self in
     let b = c.args.bucket in
-    let wanted = c.first_row.result + c.num_tiles.result in
-    let e : wanted ≡ b * tiles_of was + tiles_of was = ap₂ ◌+◌ c.first_row.ensures c.num_tiles.ensures.value in
-    let made : Made was is c.args.limits.now c.if-self-wanted.limits wanted = elim c.if-self-wanted.branch [
-      | then-self-wanted+in_ok-make_rows w ↦ rw (w.self-is, w.limits-is) w.in_ok-make_rows.ensures
-      | else-self-wanted w ↦ rw (w.self-is, w.limits-is) (already was c.args.limits.now wanted w.if-self-wanted.false)
-    ] in
-    row_found was is c.args.limits.now c.if-self-wanted.limits b c.args.val c.row_of.result (rw e at made) c.row_of.ensures.value c.row_of.ensures.inside
+    let e : c.first_row.result + c.num_tiles.result ≡ b * tiles_of was + tiles_of was = ap₂ ◌+◌ c.first_row.ensures c.num_tiles.ensures.value in
+    row_found was c.make_rows.new.self c.args.limits.now c.make_rows.new.limits b c.args.val c.row_of.result (rw e at c.in_ok-make_rows.ensures) c.row_of.ensures.value c.row_of.ensures.inside
