@@ -65,15 +65,18 @@ pub counted : (l : Lvl) (bucket : ℕ → ℕ) (step : ℕ → ℤ) (was is : Co
     → MatchResult r (λ _. (row < was.rows) × OneUp was is row) (λ f. (f ≡ fault CountOverflow was.level) × (is ≡ was) × (row < was.rows → get_or was.counts row 0 ≡ 2 ^ 64 - 1))
     → MatchResult r (λ _. (row < was.rows) × Counted (table_with l bucket step was) (table_with l bucket step is) row) (λ f. row < was.rows → (f ≡ fault CountOverflow was.level) × (get_or was.counts row 0 ≡ 2 ^ 64 - 1) × (table_with l bucket step is ≡ table_with l bucket step was))
 counted l bucket step was is row r e = MatchResult-weaker r e
-    (λ _ up. (up.0, record {
-      same_level = refl;
-      same_number = up.1.same_level;
-      same_rows = up.1.same_rows;
-      same_bucket = λ k h. refl;
-      same_step = λ k h. refl;
-      here = up.1.here;
-      elsewhere = λ k h ne. up.1.elsewhere k ne;
-    }))
+    (λ _ up. (
+      up.0,
+      record {
+        same_level = refl;
+        same_number = up.1.same_level;
+        same_rows = up.1.same_rows;
+        same_bucket = λ k h. refl;
+        same_step = λ k h. refl;
+        here = up.1.here;
+        elsewhere = λ k h ne. up.1.elsewhere k ne;
+      },
+    ))
     (λ f no h. (no.0, no.2 h, ap (table_with l bucket step) no.1))
 
 -- Where no row is made nothing is charged.
