@@ -60,6 +60,7 @@ impl RowTable for RangeRows {
         Kind::Range
     }
 
+    // One call each on the counts: a counts_mut would have to promise what comes back when the borrow ends.
     fn number(&self) -> u32 {
         self.counts.level
     }
