@@ -2,9 +2,9 @@
 use Rattle.std.proofs.Common.{◌≡◌, Bool, true, false, cond, not, ◌&&◌, ◌||◌, T, pos, Some, None, Option, unwrap_or, sym, refl, ap, ◌∙◌, subst, arith}
 use lib.Ieee.{Float, nan, inf, fin, lt, le}
 use Rattle.std.proofs.lemmas.Bool.Decides.{nat_tests}
+use Rattle.std.proofs.lemmas.Float.{T_from_true}
 use Rattle.std.specs.Float as Floats
 use Rattle.records.specs.declared.fault.Refusal.{Refusal}
-use Rattle.numbers.proofs.Wholes.{as_true}
 use Rattle.buckets.specs.declared.histogram.HistogramBounds.{HistogramBounds}
 use Rattle.buckets.specs.Grids.{zero, counted, slot_of, in_unit, bad_grid, bad_offset, bad_bounds, SoundIfAccepted, NanUncounted}
 use Rattle.buckets.proofs.Slots.{zero_is}
@@ -27,7 +27,7 @@ above_zero (fin false m e) f h = grind (arith, nat_tests)
 
 finite_or_zero : (o : Option Float) → bad_offset o ≡ false → T (Floats.float_is_finite (unwrap_or o zero))
 finite_or_zero None h = subst (λ (x : Float). T (Floats.float_is_finite x)) (sym zero_is) (unfold Floats.float_is_finite in tt)
-finite_or_zero (Some x) h = as_true (grind (arith, nat_tests))
+finite_or_zero (Some x) h = T_from_true _ (grind (arith, nat_tests))
 
 no_reason : (a b c d e : Bool) → (not a || b || c || d || e) ≡ false → (a ≡ true) × (b ≡ false) × (c ≡ false) × (d ≡ false) × (e ≡ false)
 no_reason a b c d e h = (grind (arith, nat_tests), grind (arith, nat_tests), grind (arith, nat_tests), grind (arith, nat_tests), grind (arith, nat_tests))
@@ -39,8 +39,8 @@ sound t q h =
     let n = no_reason (Floats.float_is_finite u.interval) (le u.interval zero) (bad_offset u.offset) (bad_bounds u.hard_bounds) (bad_bounds u.extended_bounds) good in
     let a = above_zero u.interval n.0 (ap (le u.interval) (sym zero_is) ∙ n.1) in
     record {
-      interval_finite = as_true n.0;
-      interval_above = as_true (ap (λ (z : Float). lt z u.interval) zero_is ∙ a);
+      interval_finite = T_from_true _ n.0;
+      interval_above = T_from_true _ (ap (λ (z : Float). lt z u.interval) zero_is ∙ a);
       offset_finite = finite_or_zero u.offset n.2;
       hard_numbers = n.3;
       extended_numbers = n.4;

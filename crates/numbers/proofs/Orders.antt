@@ -8,21 +8,21 @@ use lib.Ieee.Exact.{HasValue, odd_sign}
 use lib.Ieee.Order.{le_of_values, round_mono}
 use lib.Ieee.Fits.{round_is}
 use Rattle.std.proofs.lemmas.Int.{ints}
+use Rattle.std.proofs.lemmas.Float.{T_from_true}
 use lib.Ieee.Bits.{is_true, nan_bits_is, nan_bits_above}
 use Rattle.records.specs.ColumnTypes.{Form, whole, float, rule}
 use Rattle.numbers.specs.Columns.{number, number_of, less_shift}
 use Rattle.numbers.specs.Orders.{Ordered}
-use Rattle.numbers.proofs.Wholes.{as_true}
 
 -- ---- the order and the sign
 flip_fin : (s t : Bool) (a b : ℕ) → T (below s a t b || level s a t b) → T (below (not t) b (not s) a || level (not t) b (not s) a)
-flip_fin true true a b h = let k = is_true _ h in as_true (grind (arith, nat_tests))
-flip_fin true false a b h = let k = is_true _ h in as_true (grind (arith, nat_tests))
-flip_fin false true a b h = let k = is_true _ h in as_true (grind (arith, nat_tests))
-flip_fin false false a b h = let k = is_true _ h in as_true (grind (arith, nat_tests))
+flip_fin true true a b h = let k = is_true _ h in T_from_true _ (grind (arith, nat_tests))
+flip_fin true false a b h = let k = is_true _ h in T_from_true _ (grind (arith, nat_tests))
+flip_fin false true a b h = let k = is_true _ h in T_from_true _ (grind (arith, nat_tests))
+flip_fin false false a b h = let k = is_true _ h in T_from_true _ (grind (arith, nat_tests))
 
 across : (a b : ℕ) → T (below true a false b || level true a false b)
-across a b = as_true (grind (arith, nat_tests))
+across a b = T_from_true _ (grind (arith, nat_tests))
 
 pub flip : (x y : Float) → T (le x y) → T (le (neg y) (neg x))
 unfolding le neg

@@ -11,9 +11,6 @@ use Rattle.std.proofs.lemmas.Int.{ints}
 use Rattle.std.proofs.lemmas.Bool.{cases_lt}
 use Rattle.numbers.specs.Whole.{part, over, cut, floor_i64, ceil, signed, Floor, Ceiling}
 
-pub as_true : {b : Bool} → b ≡ true → T b
-as_true e = subst T (sym e) tt
-
 -- ---- the whole numbers next to n / d, among all whole numbers
 
 -- n ≤ j * d exactly if over n d ≤ j: the quotient is rounded up

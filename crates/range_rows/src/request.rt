@@ -3,8 +3,10 @@ ghost use Rattle.std.specs.Prelude.{◌≡◌};
 ghost use Rattle.range_rows.specs.Requests.{own_ranges};
 
 use buckets::range::RangeAggregationRange;
+use segments::segment::cut;
 
 /// What is asked of a range level: the column that it sorts, and which of the ranges lent with the call are its own.
+// By index: a request is plain, and its ranges lie in the slice that is lent beside it.
 #[derive(Clone, Copy, Debug)]
 pub struct RangeRequest {
     pub column: u32,
@@ -19,8 +21,6 @@ impl RangeRequest {
     pub fn ranges<'a>(&self, ranges: &'a [RangeAggregationRange]) -> &'a [RangeAggregationRange]
         ensures { result.now ≡ own_ranges self.now ranges.now }
     {
-        let start = self.start.min(ranges.len());
-        let count = self.count.min(ranges.len() - start);
-        &ranges[start..start + count]
+        cut(ranges, self.start, self.count)
     }
 }

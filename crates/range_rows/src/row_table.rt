@@ -60,6 +60,7 @@ impl RowTable for RangeRows {
         Kind::Range
     }
 
+    // One call each on the counts: a counts_mut would have to promise what comes back when the borrow ends.
     fn number(&self) -> u32 {
         self.counts.level
     }
@@ -142,10 +143,6 @@ mod tests {
         table
     }
 
-    fn refusal(r: Result<(), Fault>) -> Option<(u8, u32)> {
-        r.err().map(|f| (f.refusal.number(), f.level))
-    }
-
     #[test]
     fn rows_of_values(rt: HostRuntime) {
         let mut limits = AggregationLimits {
@@ -169,9 +166,12 @@ mod tests {
             used: 0,
         };
         let mut table = four_tiles();
-        assert_eq!(rt; refusal(table.prepare(&mut limits, 128)), None);
+        assert_eq!(rt; table.prepare(&mut limits, 128).err(), None);
         assert_eq!(rt; table.num_rows(), 512);
-        assert_eq!(rt; refusal(table.prepare(&mut limits, 129)), Some((11, 3)));
+        assert_eq!(rt;
+            table.prepare(&mut limits, 129).err(),
+            Some(Refusal::TooManyRows.at(3))
+        );
         assert_eq!(rt; table.num_rows(), 512);
         assert_eq!(rt; limits.used, 512);
     }
@@ -180,7 +180,10 @@ mod tests {
     fn an_allowance_one_short(rt: HostRuntime) {
         let mut limits = AggregationLimits { limit: 7, used: 0 };
         let mut table = four_tiles();
-        assert_eq!(rt; refusal(table.prepare(&mut limits, 2)), Some((12, 3)));
+        assert_eq!(rt;
+            table.prepare(&mut limits, 2).err(),
+            Some(Refusal::AllowanceExceeded.at(3))
+        );
         assert_eq!(rt; table.num_rows(), 7);
         assert_eq!(rt; limits.used, 8);
         assert_eq!(rt; table.row_at(1, 2), Some(6));

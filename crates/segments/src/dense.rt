@@ -4,7 +4,7 @@ ghost use Rattle.std.specs.List.{slice_get};
 ghost use Rattle.std.specs.Option.{option_to_list};
 ghost use Rattle.segments.specs.Segments.{values, of_dense};
 
-use crate::segment::{Sliced, cut};
+use crate::segment::{Sliced, column_in, cut};
 use records::column_type::ColumnType;
 
 /// A segment with one value for each document and column: the value of document d in column c stands at
@@ -22,10 +22,7 @@ impl<'a> DenseSegment<'a> {
         ensures { (doc : ℕ) → option_to_list (slice_get result.now doc) ≡ values (of_dense self.now) column doc }
     {
         let width = self.num_docs as usize;
-        if column as usize >= self.column_types.len() {
-            return &[];
-        }
-        cut(self.values, column as usize * width, width)
+        column_in(self.column_types, self.values, column, width)
     }
 }
 

@@ -3,7 +3,7 @@ ghost use Rattle.std.specs.Prelude.{◌≡◌, ℕ, ◌+◌};
 ghost use Rattle.std.specs.List.{slice_get};
 ghost use Rattle.segments.specs.Segments.{values, between, of_offset};
 
-use crate::segment::{Sliced, cut};
+use crate::segment::{Sliced, column_in, cut};
 use records::column_type::ColumnType;
 
 /// A segment with any number of values for each document and column. Column c has one offset for each document and one
@@ -23,10 +23,7 @@ impl<'a> OffsetSegment<'a> {
         ensures { (doc : ℕ) → between (slice_get result.now doc) (slice_get result.now (doc + 1)) self.now.values.now ≡ values (of_offset self.now) column doc }
     {
         let width = self.num_docs as usize + 1;
-        if column as usize >= self.column_types.len() {
-            return &[];
-        }
-        cut(self.offsets, column as usize * width, width)
+        column_in(self.column_types, self.offsets, column, width)
     }
 }
 

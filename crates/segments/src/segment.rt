@@ -1,5 +1,5 @@
 //! The interface of a segment.
-ghost use Rattle.std.specs.Prelude.{◌≡◌, length, take, drop};
+ghost use Rattle.std.specs.Prelude.{◌≡◌, ◌*◌, ◌^◌, ◌<◌, ◌≤◌, [], length, take, drop};
 ghost use Rattle.std.specs.List.{slice_get};
 ghost use Rattle.segments.specs.Segments.{Seg, values, Reading};
 
@@ -65,11 +65,28 @@ impl<S: Sliced> Segment for S {
 }
 
 /// The part of a slice from a place on, of the given length, or shorter where the slice ends before.
-pub(crate) fn cut<T>(all: &[T], start: usize, len: usize) -> &[T]
+pub fn cut<T>(all: &[T], start: usize, len: usize) -> &[T]
     ensures { result.now ≡ take len (drop start all.now) }
 {
     let rest = all.get(start..).unwrap_or_default();
     rest.get(..len).unwrap_or(rest)
+}
+
+/// What a column holds in a slice of columns of one width, as far as the slice goes; an unknown column holds nothing.
+pub(crate) fn column_in<'a, T>(
+    types: &[ColumnType],
+    all: &'a [T],
+    column: u32,
+    width: usize,
+) -> &'a [T]
+    requires { width ≤ 2 ^ 32 }
+    ensures known { column < length types.now → result.now ≡ take width (drop (column * width) all.now) }
+    ensures unknown { length types.now ≤ column → result.now ≡ [] }
+{
+    if column as usize >= types.len() {
+        return &[];
+    }
+    cut(all, column as usize * width, width)
 }
 
 /// Unknown columns and documents have no values, and reading by index from 0 reads a whole list.
