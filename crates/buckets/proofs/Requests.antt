@@ -1,6 +1,7 @@
 -- Why the grid of a request that is not refused is sound, and why no grid counts a NaN.
 use Rattle.std.proofs.Common.{◌≡◌, Bool, true, false, cond, not, ◌&&◌, ◌||◌, T, pos, Some, None, Option, unwrap_or, sym, refl, ap, ◌∙◌, subst, arith}
 use lib.Ieee.{Float, nan, inf, fin, lt, le}
+use Rattle.std.proofs.lemmas.Bool.{or_parts}
 use Rattle.std.proofs.lemmas.Bool.Decides.{nat_tests}
 use Rattle.std.proofs.lemmas.Float.{T_from_true}
 use Rattle.std.specs.Float as Floats
@@ -12,10 +13,6 @@ use Rattle.buckets.proofs.Slots.{zero_is}
 not_first : (a : Bool) (r : Refusal) (o : Option Refusal) → cond a (Some r) o ≡ None → a ≡ false
 not_first true r o h = cc
 not_first false r o h = refl
-
-neither : (a b : Bool) → (a || b) ≡ false → (a ≡ false) × (b ≡ false)
-neither true b h = (h, cc)
-neither false b h = (refl, h)
 
 -- what is finite and not at most 0 is above 0
 above_zero : (i : Float) → Floats.float_is_finite i ≡ true → le i (fin false 0 (pos 0)) ≡ false → lt (fin false 0 (pos 0)) i ≡ true
@@ -35,7 +32,7 @@ no_reason a b c d e h = (grind (arith, nat_tests), grind (arith, nat_tests), gri
 pub sound : SoundIfAccepted
 sound t q h =
     let u = in_unit t q in
-    let good = (neither (bad_grid q) (bad_grid u) (not_first _ _ _ h)).1 in
+    let good = (or_parts (bad_grid q) (bad_grid u) (not_first _ _ _ h)).1 in
     let n = no_reason (Floats.float_is_finite u.interval) (le u.interval zero) (bad_offset u.offset) (bad_bounds u.hard_bounds) (bad_bounds u.extended_bounds) good in
     let a = above_zero u.interval n.0 (ap (le u.interval) (sym zero_is) ∙ n.1) in
     record {

@@ -23,6 +23,7 @@ pub fn get_bucket_key_from_pos(bucket_pos: i64, interval: f64, offset: f64) -> f
 }
 
 /// A histogram's grid in the column's unit.
+// A type of its own: its numbers are in the column's unit, none is absent, and nothing is left to refuse.
 #[derive(Clone, Copy)]
 pub struct Grid {
     pub interval: f64,

@@ -19,7 +19,7 @@ impl HistogramBounds {
     pub fn contains(&self, val: f64) -> bool
         ensures { result ≡ within self.now val }
     {
-        val >= self.min && val <= self.max
+        (self.min..=self.max).contains(&val)
     }
 
     /// Whether an end is a NaN.
@@ -122,14 +122,14 @@ pub fn validate_histogram(
 mod tests {
     use super::*;
 
-    // the refusal's number for hard bounds from 0 to `hard_max` and extended ones from 0 to `extended_max`.
+    // the refusal for hard bounds from 0 to `hard_max` and extended ones from 0 to `extended_max`.
     fn refused(
         interval: f64,
         min_doc_count: u64,
         hard_max: f64,
         extended_max: f64,
         field_type: ColumnType,
-    ) -> Option<u8> {
+    ) -> Option<Refusal> {
         let req = HistogramAggregation {
             interval,
             offset: None,
@@ -145,20 +145,35 @@ mod tests {
         };
         validate_histogram(&req, field_type, 1)
             .err()
-            .map(|fault| fault.refusal.number())
+            .map(|fault| fault.refusal)
     }
 
     #[test]
     fn refusals(rt: HostRuntime) {
         assert_eq!(rt; refused(1.0, 0, 9.0, 9.0, ColumnType::F64), None);
-        assert_eq!(rt; refused(0.0, 1, 9.0, 10.0, ColumnType::F64), Some(5));
-        assert_eq!(rt; refused(1.0, 1, 9.0, 10.0, ColumnType::F64), Some(6));
-        assert_eq!(rt; refused(1.0, 0, 9.0, 10.0, ColumnType::F64), Some(7));
-        assert_eq!(rt; refused(1e303, 1, 9.0, 10.0, ColumnType::F64), Some(6));
-        assert_eq!(rt; refused(1e303, 1, 9.0, 10.0, ColumnType::DateTime), Some(5));
+        assert_eq!(rt;
+            refused(0.0, 1, 9.0, 10.0, ColumnType::F64),
+            Some(Refusal::BadGrid)
+        );
+        assert_eq!(rt;
+            refused(1.0, 1, 9.0, 10.0, ColumnType::F64),
+            Some(Refusal::MinDocCountWithExtendedBounds)
+        );
+        assert_eq!(rt;
+            refused(1.0, 0, 9.0, 10.0, ColumnType::F64),
+            Some(Refusal::ExtendedBoundsOutsideHard)
+        );
+        assert_eq!(rt;
+            refused(1e303, 1, 9.0, 10.0, ColumnType::F64),
+            Some(Refusal::MinDocCountWithExtendedBounds)
+        );
+        assert_eq!(rt;
+            refused(1e303, 1, 9.0, 10.0, ColumnType::DateTime),
+            Some(Refusal::BadGrid)
+        );
         assert_eq!(rt;
             refused(1.0, 0, 1e303, 2e303, ColumnType::DateTime),
-            Some(7)
+            Some(Refusal::ExtendedBoundsOutsideHard)
         );
     }
 }

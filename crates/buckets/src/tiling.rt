@@ -1,12 +1,14 @@
 //! A tiling's struct, apart from its functions, so that specs can name it.
 ghost use Rattle.std.specs.Prelude.{◌≡◌, ℕ, ◌+◌, ◌-◌, ◌^◌, ◌<◌, ◌≤◌, length, slice_index};
 
+use crate::tiles::MOST_TILES;
+
 /// Tiles that cover the values of a column with no hole: the first starts at 0, each ends where the next one starts, and
 /// the last ends at 2^64 − 1. Only the first `len` starts count; 16 ranges make at most 33 tiles.
 #[derive(Clone, Copy)]
 pub struct Tiling {
     // A fixed table with its length: an `ArrayVec` is not Copy.
-    pub(crate) starts: [u64; 33],
+    pub(crate) starts: [u64; MOST_TILES],
     pub(crate) len: usize,
     ghost whole: { length starts ≡ 33 },
     ghost some: { 1 ≤ len },

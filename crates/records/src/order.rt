@@ -42,6 +42,7 @@ impl Path {
     }
 }
 
+// Equality and order by hand: derived ones would compare the steps past `len` too, and compare them before `len`.
 impl PartialEq for Path {
     ghost eq = { λ p q. pointwise int_eq (steps_of p) (steps_of q) };
 
