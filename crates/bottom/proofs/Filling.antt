@@ -15,7 +15,6 @@ use Rattle.segments.proofs.Values.{more, no_more}
 use Rattle.stack.specs.Levels.{Plan, values_of}
 use Rattle.stack.specs.Overruns.{Deliveries, added, numbered}
 use Rattle.stack.specs.Calls.{for_rows, Overran}
-use Rattle.stack.specs.Writing.{Feeding}
 use Rattle.stack.proofs.Delivering.{added_same, added_other}
 use Rattle.stack.proofs.Overrunning.{bottom_over}
 use Rattle.bottom.specs.Bottoms.{bottom_plan, SlotFed, Slots}
@@ -46,19 +45,19 @@ doc_fed fed t g column ds i was w is h a b =
     ∙ ap (λ es. fed_all fed t (vals es) was) (sym (take_more ds i 0 h))
 
 -- The slot of a bucket is fed its documents; every other slot is as it was.
-pub slots_fed : {T W : Type 0} (worth : T → W) (f : Feeding W) (plan : Plan) (g : Seg) (was is : List T) (b : ℕ) (ds : List ℕ)
-    → SlotFed worth f.fed plan.field_type (values_of g plan.column ds) was is b → (D : Deliveries) → Slots worth f plan g was D → Slots worth f plan g is (added D b ds)
-slots_fed worth f plan g was is b ds x D s =
+pub slots_fed : {T W : Type 0} (worth : T → W) (nothing : W) (fed : ColumnType → ℕ → W → W) (plan : Plan) (g : Seg) (was is : List T) (b : ℕ) (ds : List ℕ)
+    → SlotFed worth fed plan.field_type (values_of g plan.column ds) was is b → (D : Deliveries) → Slots worth nothing fed plan g was D → Slots worth nothing fed plan g is (added D b ds)
+slots_fed worth nothing fed plan g was is b ds x D s =
     let t = plan.field_type in
     let vals = values_of g plan.column in
-    let feeds : List ℕ → _ = λ docs. fed_all f.fed t (vals docs) f.nothing in
+    let feeds : List ℕ → _ = λ docs. fed_all fed t (vals docs) nothing in
     record {
       inside = λ k d l. elim (cases_eq k b) [
         | inl q ↦ subst (λ (j : ℕ). worth (get_or is j d) ≡ feeds (added D b ds j)) (sym q)
             (x.here d
-            ∙ ap (fed_all f.fed t (vals ds)) (s.inside b d x.within)
-            ∙ sym (fed-more f.fed t (vals (D b)) (vals ds) f.nothing)
-            ∙ ap (λ vs. fed_all f.fed t vs f.nothing) (sym (values_more g plan.column (D b) ds))
+            ∙ ap (fed_all fed t (vals ds)) (s.inside b d x.within)
+            ∙ sym (fed-more fed t (vals (D b)) (vals ds) nothing)
+            ∙ ap (λ vs. fed_all fed t vs nothing) (sym (values_more g plan.column (D b) ds))
             ∙ ap feeds (sym (added_same D b ds)))
         | inr q ↦ ap worth (x.others k d q) ∙ s.inside k d (omega (arith, l, x.same_length)) ∙ ap feeds (sym (added_other D b k ds q))
       ];

@@ -56,7 +56,7 @@ put_size {T} {W} {worth} {was} {is} {at} {end} {es} p = sym (length-map p.rows (
 
 -- the entry of a row by number, with documents E
 abbrev pub entry_at : {W : Type 0} → Feeding W → Plan → Seg → Table → Deliveries → List ℤ → ℕ → Entry W
-entry_at f plan g t E above k = record { path = above ++ (t.step k ∷ []); count = t.count k; worth = tally_worth f plan g (E k) }
+entry_at f plan g t E above k = record { path = above ++ (t.step k ∷ []); count = t.count k; worth = tally_worth f.nothing f.fed plan g (E k) }
 
 -- the blocks of rows by number, with documents E
 abbrev pub BlocksOf : {W : Type 0} → Feeding W → Plan → Seg → Table → Deliveries → List ℤ → List ℕ → List (Entry W) → Type 0
@@ -158,7 +158,7 @@ steps_listed t g b docs ks l stands has = record {
 pub all_put : {T W : Type 0} {worth : T → W} (f : Feeding W) (plan : Plan) (g : Seg) (t : Table) → Sound t → {carried : Deliveries → Type 0} {buckets b : ℕ} (D : Deliveries) (y : Filed t buckets carried (sorted t.level g D)) → Standing t buckets → b < buckets
     → {ks : List ℕ} → Listed t b ks → (above : List ℤ) {was is : List (Row T)} {at end i : ℕ} → length ks ≤ i
     → (es : List (Entry W)) × (BlocksOf f plan g t y.docs_of above (take i ks) es × (at + length es ≤ length was → Put worth was is at end es))
-    → PutBelow worth f (on_top t.level plan) g above (D b) was is at end
+    → PutBelow worth f.nothing f.fed (on_top t.level plan) g above (D b) was is at end
 all_put {T} {W} {worth} f plan g t sound {carried} {buckets} {b} D y standing below {ks} lists above {was} {is} {at} {end} {i} all (es, (blocks, put)) = (
   es,
   (
