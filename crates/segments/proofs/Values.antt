@@ -116,7 +116,7 @@ more xs i v e =
     take_more xs i 0 (slice_get_within xs i v e) ∙ ap (λ w. take i xs ++ (w ∷ [])) (get_or_from_slice_get xs i v 0 e)
 
 -- Where an index reads no value, it is past the end.
-past : (xs : List ℕ) (i : ℕ) → slice_get xs i ≡ None → length xs ≤ i
+pub past : (xs : List ℕ) (i : ℕ) → slice_get xs i ≡ None → length xs ≤ i
 past xs i e =
     elim (cases_lt i (length xs)) [
       | inl h ↦ (let g = slice_get-get_or xs i 0 h in let z : ◌≡◌ {A = ℕ} 0 1 = cc in omega arith)
