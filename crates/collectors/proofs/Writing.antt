@@ -11,13 +11,16 @@ use Rattle.std.proofs.lemmas.Map.Steps.{length-le_from_distinct_below}
 use lib.Signed.{<ℤ_irrefl}
 use Rattle.std.proofs.lemmas.List.{length-map, get_or-map, append-nil, map-append, length-take-le, take_all, take_at, drop_at, take-append-drop, set_split, drop-drop}
 use Rattle.records.specs.Rows.{Entry, entry_of}
+use Rattle.records.specs.declared.column_type.ColumnType.{ColumnType}
 use Rattle.records.specs.declared.row.Row.{Row}
 use Rattle.segments.specs.Segments.{Seg}
 use Rattle.stack.specs.Levels.{Plan, row_docs, Step}
 use Rattle.stack.specs.Overruns.{Deliveries}
+use Rattle.stack.specs.Calls.{Waits}
 use Rattle.stack.specs.Writing.{Feeding, row_worth, tally_worth, Blocks, StepsAre, Written, Put, PutBelow}
 use Rattle.rows.specs.Tables.{Table, Has, Sound, Listed}
-use Rattle.collectors.specs.Filing.{Filed, Standing, sorted, on_top}
+use Rattle.collectors.specs.Carrying.{waits_none, carry_none}
+use Rattle.collectors.specs.Filing.{At, Filed, Standing, sorted, on_top}
 use Rattle.collectors.specs.Holding.{steps-held, has_step}
 
 -- nothing put
@@ -154,3 +157,16 @@ all_put {T} {W} {worth} f plan g t sound {carried} {buckets} {b} D y standing be
     put,
   ),
 )
+
+-- the same, by what the loop over the listed rows has put so far, for whatever is held where nothing waits
+pub level_put : {T W : Type 0} {worth : T → W} (nothing : W) (fed : ColumnType → ℕ → W → W) (plan : Plan) {t : Table} (above : List ℤ) (stored : Seg → (n buckets : ℕ) → Deliveries → Type 0) {waiting : Deliveries} {pending : ℕ} {rests prepared : Type 0}
+    → Sound t → Waits waiting pending → {b : ℕ} {ks : List ℕ} → Listed t b ks → {was is : List (Row T)} {at end i : ℕ}
+    → ((g : Seg) (n : ℕ) (E : Deliveries) → rests → prepared → stored g n t.rows E → length above + suc (length plan.levels) ≤ 3
+    → (es : List (Entry W)) × (BlocksOf (record { nothing = nothing; fed = fed }) plan g t E above (take i ks) es × (at + length es ≤ length was → Put worth was is at end es)))
+    → length ks ≤ i
+    → (g : Seg) (n buckets : ℕ) (D : Deliveries) → (pending ≡ 0) × rests → Standing t buckets × prepared → b < buckets → At t (stored g) waiting n buckets (sorted t.level g D)
+    → length above + suc (length plan.levels) ≤ 3 → PutBelow worth nothing fed (on_top t.level plan) g above (D b) was is at end
+level_put {T} {W} {worth} nothing fed plan {t} above stored sound waits lists loop all g n buckets D settled prepared below held depth =
+    let y = held.filed in
+    all_put (record { nothing = nothing; fed = fed }) plan g t sound D y prepared.0 below lists above all
+    (loop g (suc n) y.docs_of settled.1 prepared.1 (carry_none (waits_none waits settled.0) y.of_rows.carries) depth)

@@ -55,7 +55,7 @@ pub trait SegmentAggregationCollector {
     ghost made: { Self → ℕ };
 
     /// Refuses a request, or accepts it; alters nothing.
-    // A request is plain: its ranges lie in a slice that is lent beside it, as the segment is, whose type is the call's own.
+    // One by one: a request is plain, and its ranges lie in a slice that is lent beside it.
     fn check<S: Segment>(
         request: &Self::Request,
         ranges: &[RangeAggregationRange],
@@ -65,7 +65,7 @@ pub trait SegmentAggregationCollector {
         ensures { Answers result (refused request.now ranges.now (S.means seg.now).column_type level) };
 
     /// Empties the level and all below it, and takes up a request that was accepted.
-    // What is lent is that of `check`, one by one.
+    // One by one, as to `check`.
     fn reset<S: Segment>(
         &mut self,
         request: &Self::Request,
