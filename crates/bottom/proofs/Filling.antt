@@ -1,5 +1,5 @@
 -- Feeding the slots, and refusing a bucket past them.
-use Rattle.std.proofs.Common.{◌≡◌, ℕ, ◌+◌, ◌<◌, ◌≤◌, ◌≢◌, List, [], ◌∷◌, ◌++◌, length, get_or, take, Some, None, sym, refl, ap, ◌∙◌, subst, inl, inr, append_assoc, arith}
+use Rattle.std.proofs.Common.{◌≡◌, ℕ, ◌+◌, ◌<◌, ◌≤◌, ◌≢◌, List, [], ◌∷◌, ◌++◌, length, get_or, take, Some, None, sym, refl, ap, ◌∙◌, subst, inl, inr, arith}
 use Rattle.std.specs.List.{slice_get}
 use Rattle.std.proofs.lemmas.List.{append-nil, take_more}
 use Rattle.std.proofs.lemmas.Bool.{cases_eq}
@@ -15,15 +15,10 @@ use Rattle.segments.proofs.Values.{more, no_more}
 use Rattle.stack.specs.Levels.{Plan, values_of}
 use Rattle.stack.specs.Overruns.{Deliveries, added, numbered}
 use Rattle.stack.specs.Calls.{for_rows, Overran}
-use Rattle.stack.specs.Writing.{Feeding}
 use Rattle.stack.proofs.Delivering.{added_same, added_other}
 use Rattle.stack.proofs.Overrunning.{bottom_over}
+use Rattle.stack.proofs.Readings.{values-append}
 use Rattle.bottom.specs.Bottoms.{bottom_plan, SlotFed, Slots}
-
--- the values of one list of documents, then of the other: by recursion on the first
-pub values_more : (g : Seg) (column : ℕ) (ds es : List ℕ) → values_of g column (ds ++ es) ≡ values_of g column ds ++ values_of g column es
-values_more g column [] es = refl
-values_more g column (d ∷ ds) es = ap (λ vs. values g column d ++ vs) (values_more g column ds es) ∙ sym (append_assoc (values g column d) (values_of g column ds) (values_of g column es))
 
 -- One value more is fed: the one read at the next index.
 pub value_fed : {W : Type 0} (fed : ColumnType → ℕ → W → W) (t : ColumnType) (vs : List ℕ) (i v : ℕ) (was w is : W) → w ≡ fed_all fed t (take i vs) was → slice_get vs i ≡ Some v → is ≡ fed t v w → is ≡ fed_all fed t (take (i + 1) vs) was
@@ -42,23 +37,23 @@ doc_fed fed t g column ds i was w is h a b =
     b ∙ ap (fed_all fed t (values g column d)) a
     ∙ sym (fed-more fed t (vals (take i ds)) (values g column d) was)
     ∙ ap (λ vs. fed_all fed t (vals (take i ds) ++ vs) was) (sym (append-nil (values g column d)))
-    ∙ ap (λ vs. fed_all fed t vs was) (sym (values_more g column (take i ds) (d ∷ [])))
+    ∙ ap (λ vs. fed_all fed t vs was) (sym (values-append g column (take i ds) (d ∷ [])))
     ∙ ap (λ es. fed_all fed t (vals es) was) (sym (take_more ds i 0 h))
 
 -- The slot of a bucket is fed its documents; every other slot is as it was.
-pub slots_fed : {T W : Type 0} (worth : T → W) (f : Feeding W) (plan : Plan) (g : Seg) (was is : List T) (b : ℕ) (ds : List ℕ)
-    → SlotFed worth f.fed plan.field_type (values_of g plan.column ds) was is b → (D : Deliveries) → Slots worth f plan g was D → Slots worth f plan g is (added D b ds)
-slots_fed worth f plan g was is b ds x D s =
+pub slots_fed : {T W : Type 0} (worth : T → W) (nothing : W) (fed : ColumnType → ℕ → W → W) (plan : Plan) (g : Seg) (was is : List T) (b : ℕ) (ds : List ℕ)
+    → SlotFed worth fed plan.field_type (values_of g plan.column ds) was is b → (D : Deliveries) → Slots worth nothing fed plan g was D → Slots worth nothing fed plan g is (added D b ds)
+slots_fed worth nothing fed plan g was is b ds x D s =
     let t = plan.field_type in
     let vals = values_of g plan.column in
-    let feeds : List ℕ → _ = λ docs. fed_all f.fed t (vals docs) f.nothing in
+    let feeds : List ℕ → _ = λ docs. fed_all fed t (vals docs) nothing in
     record {
       inside = λ k d l. elim (cases_eq k b) [
         | inl q ↦ subst (λ (j : ℕ). worth (get_or is j d) ≡ feeds (added D b ds j)) (sym q)
             (x.here d
-            ∙ ap (fed_all f.fed t (vals ds)) (s.inside b d x.within)
-            ∙ sym (fed-more f.fed t (vals (D b)) (vals ds) f.nothing)
-            ∙ ap (λ vs. fed_all f.fed t vs f.nothing) (sym (values_more g plan.column (D b) ds))
+            ∙ ap (fed_all fed t (vals ds)) (s.inside b d x.within)
+            ∙ sym (fed-more fed t (vals (D b)) (vals ds) nothing)
+            ∙ ap (λ vs. fed_all fed t vs nothing) (sym (values-append g plan.column (D b) ds))
             ∙ ap feeds (sym (added_same D b ds)))
         | inr q ↦ ap worth (x.others k d q) ∙ s.inside k d (omega (arith, l, x.same_length)) ∙ ap feeds (sym (added_other D b k ds q))
       ];

@@ -8,7 +8,6 @@ use Rattle.metrics.specs.Tallies.{fed_all}
 use Rattle.segments.specs.Segments.{Seg}
 use Rattle.stack.specs.Levels.{Plan, values_of}
 use Rattle.stack.specs.Overruns.{Deliveries, fault}
-use Rattle.stack.specs.Writing.{Feeding}
 
 -- no level is left
 abbrev pub bottom_plan : ℕ → ColumnType → Plan
@@ -32,6 +31,6 @@ pub record SlotFed {T W : Type 0} (worth : T → W) (fed : ColumnType → ℕ �
   pub others : (k : ℕ) (d : T) → (k ≢ at) → slice_index_or is k d ≡ slice_index_or was k d
 
 -- each bucket's slot is worth what its documents' values make of the empty tally, and no bucket lies past the slots
-pub record Slots {T W : Type 0} (worth : T → W) (f : Feeding W) (plan : Plan) (g : Seg) (slots : List T) (D : Deliveries) : Type 0 where
-  pub inside : (b : ℕ) (d : T) → b < length slots → worth (slice_index_or slots b d) ≡ fed_all f.fed plan.field_type (values_of g plan.column (D b)) f.nothing
+pub record Slots {T W : Type 0} (worth : T → W) (nothing : W) (fed : ColumnType → ℕ → W → W) (plan : Plan) (g : Seg) (slots : List T) (D : Deliveries) : Type 0 where
+  pub inside : (b : ℕ) (d : T) → b < length slots → worth (slice_index_or slots b d) ≡ fed_all fed plan.field_type (values_of g plan.column (D b)) nothing
   pub outside : (b : ℕ) → length slots ≤ b → D b ≡ []

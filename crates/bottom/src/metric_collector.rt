@@ -6,7 +6,6 @@ ghost use Rattle.metrics.specs.Tallies.{fed_all};
 ghost use Rattle.segments.specs.Segments.{values};
 ghost use Rattle.stack.specs.Levels.{values_of};
 ghost use Rattle.stack.specs.Overruns.{numbered};
-ghost use Rattle.stack.specs.Writing.{Feeding};
 ghost use Rattle.bottom.specs.Bottoms.{bottom_plan, type_or_u64, unknown_column, SlotFed, Slots};
 ghost use Rattle.stack.proofs.Bounds.{complete_bottom};
 ghost use Rattle.std.proofs.Common.{rules};
@@ -109,7 +108,7 @@ impl<T: Tally> SegmentAggregationCollector for SegmentMetricCollector<T> {
 
     ghost refused = { λ request ranges types n. unknown_column (types request.column) n };
 
-    ghost holds = { λ c slots g n buckets D. (c.number ≡ numbered n) × Slots T.Tally.worth record { nothing = T.Tally.nothing; fed = T.Tally.fed } (bottom_plan c.column c.field_type) g slots D };
+    ghost holds = { λ c slots g n buckets D. (c.number ≡ numbered n) × Slots T.Tally.worth T.Tally.nothing T.Tally.fed (bottom_plan c.column c.field_type) g slots D };
 
     ghost settled = { λ c. Unit {0} };
 
@@ -145,6 +144,7 @@ impl<T: Tally> SegmentAggregationCollector for SegmentMetricCollector<T> {
         self.number = level;
         self.column = request.column;
         self.field_type = seg.column_type(request.column).unwrap_or(ColumnType::U64);
+        // Not `fill`, which asks that a clone cannot fail.
         for slot in slots.iter_mut() {
             *slot = T::empty();
         }

@@ -9,7 +9,7 @@ use Rattle.records.specs.declared.fault.Fault.{Fault}
 use Rattle.segments.specs.Segments.{Seg}
 use Rattle.stack.specs.Levels.{Plan}
 use Rattle.stack.specs.Overruns.{Deliveries, none_yet, added, all_added}
-use Rattle.stack.specs.Calls.{Overran, Inside, State, Holds, Accepted, Refused, Handled, HandledAnd}
+use Rattle.stack.specs.Calls.{Inside, State, Holds, Accepted, Refused, Handled, HandledAnd}
 use Rattle.stack.proofs.Chaining.{went_none, went_then, went_overran}
 
 -- ---- one call after others
@@ -29,7 +29,7 @@ handled_within holds plan made g was ends inside within grows result fewer call 
 
 -- nothing is delivered yet
 pub went_first : {C T : Type 0} (holds : Holds C T) (plan : C → Plan) (made : C → ℕ) (g : Seg) (was : State C T) (W done : Deliveries) → ((k : ℕ) → done k ≡ []) → Accepted holds plan made g was was (Inside W) (λ D. all_added D done)
-went_first holds plan made g was W done none = went_none (holds was.0 was.1 g) (Inside W) (λ D. all_added D done) (plan was.0) was.2 (made was.0) (λ D. fun_ext (λ k. ap (λ (xs : List ℕ). D k ++ xs) (none k) ∙ append-nil (D k)))
+went_first holds plan made g was W done none = went_none (λ D. fun_ext (λ k. ap (λ (xs : List ℕ). D k ++ xs) (none k) ∙ append-nil (D k)))
 
 -- a call delivers a part: with what was delivered it makes `next`, and then `rest` is left
 module _ {C T : Type 0} (holds : Holds C T) (plan : C → Plan) (made : C → ℕ) (g : Seg) (was is : State C T) (W done part next rest : Deliveries)
@@ -40,19 +40,15 @@ module _ {C T : Type 0} (holds : Holds C T) (plan : C → Plan) (made : C → �
   grown D k = (λ i. delivers (all_added D done) i k) ∙ append_assoc (D k) (done k) (part k) ∙ ap (λ (xs : List ℕ). D k ++ xs) (together k)
 
   pub went-part : Accepted holds plan made g is ends inside grows → Accepted holds plan made g was ends (Inside W) (λ D. all_added D next)
-  went-part call = went_then (holds was.0 was.1 g) (holds is.0 is.1 g) (holds ends.0 ends.1 g) (Inside W) inside (Inside W) (λ D. all_added D done) grows (λ D. all_added D next)
-      (plan was.0) (plan is.0) (plan ends.0) was.2 is.2 ends.2 (made was.0) (made is.0) (made ends.0)
-      (λ x i. i) within (λ D. fun_ext (grown D)) so_far call
+  went-part call = went_then so_far call within (λ D. fun_ext (grown D))
 
   -- a call that is refused refuses the whole
   pub overran-there : length is.1 ≡ length was.1 → (f : Fault) → Refused holds plan made g is ends inside grows f → Refused holds plan made g was ends (Inside W) (λ D. all_added D W) f
-  overran-there same f call = subst (λ (s : ℕ). Overran 1 (plan was.0) s g (holds was.0 was.1 g) (Inside W) (λ D. all_added D W) was.2 ends.2 (made was.0) (made ends.0) f) same
-      (went_overran 1 (length is.1) g (holds was.0 was.1 g) (holds is.0 is.1 g) (Inside W) inside (Inside W) (λ D. all_added D done) grows (λ D. all_added D W)
-      (plan was.0) (plan is.0) was.2 is.2 ends.2 (made was.0) (made is.0) (made ends.0) f
-      (λ x i. i) within (λ D. record {
+  overran-there same f call = went_overran same so_far call within
+      (λ D. record {
         rest = rest;
         is = λ k. ap (λ (xs : List ℕ). D k ++ xs) (sym (left k)) ∙ sym (append_assoc (D k) (next k) (rest k)) ∙ ap (λ (xs : List ℕ). xs ++ rest k) (sym (grown D k));
-      }) so_far call)
+      })
 
 -- a last call that delivers nothing of its own
 module _ {C T V : Type 0} {also so : Type 0} (holds : Holds C T) (plan : C → Plan) (made : C → ℕ) (g : Seg) (was is : State C T) (W : Deliveries)

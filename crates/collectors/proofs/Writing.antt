@@ -1,19 +1,26 @@
 -- Rows written block by block.
-use Rattle.std.proofs.Common.{◌≡◌, ℕ, suc, ◌+◌, ◌<◌, ◌≤◌, List, [], ◌∷◌, ◌++◌, map, length, get_or, take, drop, set, ℤ, ◌<ℤ◌, Some, None, sym, refl, ap, ◌∙◌, subst, ap₂, inl, inr, append_assoc, arith, length-append}
+use Rattle.std.proofs.Common.{◌≡◌, ℕ, suc, ◌+◌, ◌<◌, ◌≤◌, List, [], ◌∷◌, ◌++◌, map, length, get_or, take, drop, set, eqb, ℤ, ◌<ℤ◌, Some, sym, refl, ap, ◌∙◌, subst, ap₂, append_assoc, arith, length-append}
 use Rattle.std.specs.List.{slice_get}
-use Rattle.std.proofs.lemmas.Option.{slice_get-get_or, slice_get_past}
-use Rattle.std.proofs.lemmas.Bool.{cases_lt}
+use Rattle.std.proofs.lemmas.Option.{slice_get_within, get_or_from_slice_get}
+use Rattle.std.proofs.lemmas.Bool.{eqb-true}
+use Rattle.std.proofs.lemmas.Bool.Decides.{Decides-eqb}
+use Rattle.std.proofs.lemmas.Grind.{get_or_default_zero}
+use Rattle.std.proofs.lemmas.List.Folds.{Any-from_list_any}
+use Rattle.std.proofs.lemmas.Map.Made.{IsDistinct-from_AllPairs}
+use Rattle.std.proofs.lemmas.Map.Steps.{length-le_from_distinct_below}
 use lib.Signed.{<ℤ_irrefl}
 use Rattle.std.proofs.lemmas.List.{length-map, get_or-map, append-nil, map-append, length-take-le, take_all, take_at, drop_at, take-append-drop, set_split, drop-drop}
 use Rattle.records.specs.Rows.{Entry, entry_of}
+use Rattle.records.specs.declared.column_type.ColumnType.{ColumnType}
 use Rattle.records.specs.declared.row.Row.{Row}
 use Rattle.segments.specs.Segments.{Seg}
 use Rattle.stack.specs.Levels.{Plan, row_docs, Step}
-use Rattle.stack.specs.Overruns.{Deliveries, none_yet, Place, Exists, All, Distinct}
-use Rattle.stack.proofs.Bounds.{crowd_few}
+use Rattle.stack.specs.Overruns.{Deliveries}
+use Rattle.stack.specs.Calls.{Waits}
 use Rattle.stack.specs.Writing.{Feeding, row_worth, tally_worth, Blocks, StepsAre, Written, Put, PutBelow}
 use Rattle.rows.specs.Tables.{Table, Has, Sound, Listed}
-use Rattle.collectors.specs.Filing.{Filed, Standing, sorted, on_top}
+use Rattle.collectors.specs.Carrying.{waits_none, carry_none}
+use Rattle.collectors.specs.Filing.{At, Filed, Standing, sorted, on_top}
 use Rattle.collectors.specs.Holding.{steps-held, has_step}
 
 -- nothing put
@@ -56,7 +63,7 @@ put_size {T} {W} {worth} {was} {is} {at} {end} {es} p = sym (length-map p.rows (
 
 -- the entry of a row by number, with documents E
 abbrev pub entry_at : {W : Type 0} → Feeding W → Plan → Seg → Table → Deliveries → List ℤ → ℕ → Entry W
-entry_at f plan g t E above k = record { path = above ++ (t.step k ∷ []); count = t.count k; worth = tally_worth f plan g (E k) }
+entry_at f plan g t E above k = record { path = above ++ (t.step k ∷ []); count = t.count k; worth = tally_worth f.nothing f.fed plan g (E k) }
 
 -- the blocks of rows by number, with documents E
 abbrev pub BlocksOf : {W : Type 0} → Feeding W → Plan → Seg → Table → Deliveries → List ℤ → List ℕ → List (Entry W) → Type 0
@@ -73,46 +80,20 @@ blocks_more {W} f plan g t E above (j ∷ ks) es k bs (cs, (rest, (e, (y, z)))) 
     let own : Entry W = entry_at f plan g t E above k in
     (cs, (rest ++ (own ∷ bs), (ap (λ v. v ++ (own ∷ bs)) e ∙ ap (λ v. entry_at f plan g t E above j ∷ v) (append_assoc cs rest (own ∷ bs)), (y, blocks_more f plan g t E above ks rest k bs z x))))
 
--- ---- reading a list by index
-pub read_some : (xs : List ℕ) (i v : ℕ) → slice_get xs i ≡ Some v → (i < length xs) × (get_or xs i 0 ≡ v)
-read_some xs i v e = elim (cases_lt i (length xs)) [
-  | inl h ↦ let g = slice_get-get_or xs i 0 h in (h, cc)
-  | inr h ↦ let g = slice_get_past xs i h in let z : ◌≡◌ {A = ℕ} 0 1 = cc in absurd (let y : ⊥ = omega arith in y)
-]
-
-pub read_none : (xs : List ℕ) (i : ℕ) → slice_get xs i ≡ None → length xs ≤ i
-read_none xs i e = elim (cases_lt i (length xs)) [
-  | inl h ↦ let g = slice_get-get_or xs i 0 h in let z : ◌≡◌ {A = ℕ} 0 1 = cc in absurd (let y : ⊥ = omega arith in y)
-  | inr h ↦ h
-]
-
--- ---- distinct numbers below n are at most n
-all_places : (P : Place → Type 0) (ks : List ℕ) → ((i : ℕ) → i < length ks → P (get_or ks i 0, [])) → All P (map (λ k. (k, [])) ks)
-all_places P [] f = tt
-all_places P (k ∷ ks) f = (f 0 (omega arith), all_places P ks (λ i h. f (suc i) (omega arith)))
-
-distinct_places : (ks : List ℕ) → ((i j : ℕ) → i < j → j < length ks → get_or ks i 0 ≡ get_or ks j 0 → ⊥) → Distinct (map (λ k. (k, [])) ks)
-distinct_places [] f = tt
-distinct_places (k ∷ ks) f = (
-  all_places (λ y. (k, []) ≡ y → ⊥) ks (λ i h e. f 0 (suc i) (omega arith) (omega arith) (ap (λ (x : Place). x.0) e)),
-  distinct_places ks (λ i j a b e. f (suc i) (suc j) (omega arith) (omega arith) e),
-)
-
-pub few_numbers : (n : ℕ) (ks : List ℕ) (g : Seg) → ((i : ℕ) → i < length ks → get_or ks i 0 < n) → ((i j : ℕ) → i < j → j < length ks → get_or ks i 0 ≡ get_or ks j 0 → ⊥) → length ks ≤ n
-few_numbers n ks g below apart =
-    crowd_few [] g n none_yet (length ks) record {
-      places = map (λ k. (k, [])) ks;
-      there = all_places (λ x. Exists [] g n none_yet x × (length x.1 ≡ 0)) ks (λ i h. ((below i h, tt), refl));
-      distinct = distinct_places ks apart;
-      many = omega (arith, length-map {B = Place} ks (λ (k : ℕ). (k, [])));
-    }
-
 -- a row that is listed is one of the table's, and no more are listed than there are
 pub listed_row : (t : Table) (b : ℕ) (ks : List ℕ) (i k : ℕ) → Listed t b ks → slice_get ks i ≡ Some k → k < t.rows
-listed_row t b ks i k l e = let here = read_some ks i k e in subst (λ (j : ℕ). j < t.rows) here.1 (l.below i here.0).0
+listed_row t b ks i k l e = subst (λ (j : ℕ). j < t.rows) (get_or_from_slice_get ks i k 0 e) (l.below i (slice_get_within ks i k e)).0
 
-pub listed_few : (t : Table) (b : ℕ) (ks : List ℕ) (g : Seg) → Listed t b ks → length ks ≤ t.rows
-listed_few t b ks g l = few_numbers t.rows ks g (λ i h. (l.below i h).0) (λ i j a h e. <ℤ_irrefl (subst (λ (k : ℕ). t.step (get_or ks i 0) <ℤ t.step k) (sym e) (l.rises i j a h)))
+pub listed_few : (t : Table) (b : ℕ) (ks : List ℕ) → Listed t b ks → length ks ≤ t.rows
+listed_few t b ks l =
+    length-le_from_distinct_below ks t.rows
+    (IsDistinct-from_AllPairs Decides-eqb ks (λ i j d a h e.
+    let same : get_or ks i 0 ≡ get_or ks j 0 = sym (get_or_default_zero ks i d (omega (arith, a, h))) ∙ e ∙ get_or_default_zero ks j d h in
+    <ℤ_irrefl (subst (λ (k : ℕ). t.step (get_or ks i 0) <ℤ t.step k) (sym same) (l.rises i j a h))))
+    (λ q e.
+    let found = Any-from_list_any (eqb q) ks e in
+    let h = found.2 in
+    subst (λ (k : ℕ). k < t.rows) (sym (get_or_default_zero ks found.0 found.1 h) ∙ found.3 ∙ sym (eqb-true q found.1 found.4)) (l.below found.0 h).0)
 
 -- ---- the rows listed are those that exist
 module _ {W : Type 0} (f : Feeding W) (plan : Plan) (g : Seg) (t : Table) (E : Deliveries) (above : List ℤ) (docs : List ℕ) where
@@ -158,7 +139,7 @@ steps_listed t g b docs ks l stands has = record {
 pub all_put : {T W : Type 0} {worth : T → W} (f : Feeding W) (plan : Plan) (g : Seg) (t : Table) → Sound t → {carried : Deliveries → Type 0} {buckets b : ℕ} (D : Deliveries) (y : Filed t buckets carried (sorted t.level g D)) → Standing t buckets → b < buckets
     → {ks : List ℕ} → Listed t b ks → (above : List ℤ) {was is : List (Row T)} {at end i : ℕ} → length ks ≤ i
     → (es : List (Entry W)) × (BlocksOf f plan g t y.docs_of above (take i ks) es × (at + length es ≤ length was → Put worth was is at end es))
-    → PutBelow worth f (on_top t.level plan) g above (D b) was is at end
+    → PutBelow worth f.nothing f.fed (on_top t.level plan) g above (D b) was is at end
 all_put {T} {W} {worth} f plan g t sound {carried} {buckets} {b} D y standing below {ks} lists above {was} {is} {at} {end} {i} all (es, (blocks, put)) = (
   es,
   (
@@ -176,3 +157,16 @@ all_put {T} {W} {worth} f plan g t sound {carried} {buckets} {b} D y standing be
     put,
   ),
 )
+
+-- the same, by what the loop over the listed rows has put so far, for whatever is held where nothing waits
+pub level_put : {T W : Type 0} {worth : T → W} (nothing : W) (fed : ColumnType → ℕ → W → W) (plan : Plan) {t : Table} (above : List ℤ) (stored : Seg → (n buckets : ℕ) → Deliveries → Type 0) {waiting : Deliveries} {pending : ℕ} {rests prepared : Type 0}
+    → Sound t → Waits waiting pending → {b : ℕ} {ks : List ℕ} → Listed t b ks → {was is : List (Row T)} {at end i : ℕ}
+    → ((g : Seg) (n : ℕ) (E : Deliveries) → rests → prepared → stored g n t.rows E → length above + suc (length plan.levels) ≤ 3
+    → (es : List (Entry W)) × (BlocksOf (record { nothing = nothing; fed = fed }) plan g t E above (take i ks) es × (at + length es ≤ length was → Put worth was is at end es)))
+    → length ks ≤ i
+    → (g : Seg) (n buckets : ℕ) (D : Deliveries) → (pending ≡ 0) × rests → Standing t buckets × prepared → b < buckets → At t (stored g) waiting n buckets (sorted t.level g D)
+    → length above + suc (length plan.levels) ≤ 3 → PutBelow worth nothing fed (on_top t.level plan) g above (D b) was is at end
+level_put {T} {W} {worth} nothing fed plan {t} above stored sound waits lists loop all g n buckets D settled prepared below held depth =
+    let y = held.filed in
+    all_put (record { nothing = nothing; fed = fed }) plan g t sound D y prepared.0 below lists above all
+    (loop g (suc n) y.docs_of settled.1 prepared.1 (carry_none (waits_none waits settled.0) y.of_rows.carries) depth)

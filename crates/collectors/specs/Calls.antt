@@ -1,5 +1,6 @@
 -- What a call of a level with rows promises, of the states before and after.
 use Rattle.std.specs.Prelude.{◌≡◌, ℕ, suc, ◌+◌, ◌<◌, ◌≤◌, List, [], ◌∷◌, length, ℤ, Result, MatchResult}
+use Rattle.records.specs.declared.column_type.ColumnType.{ColumnType}
 use Rattle.records.specs.declared.fault.Fault.{Fault}
 use Rattle.records.specs.Rows.{Entry}
 use Rattle.records.specs.declared.row.Row.{Row}
@@ -7,7 +8,7 @@ use Rattle.segments.specs.Segments.{Seg}
 use Rattle.stack.specs.Levels.{Lvl, Plan}
 use Rattle.stack.specs.Overruns.{Deliveries, added}
 use Rattle.stack.specs.Calls.{State, Holds, Accepted}
-use Rattle.stack.specs.Writing.{Feeding, tally_worth, Written, Put}
+use Rattle.stack.specs.Writing.{tally_worth, Written, Put}
 use Rattle.rows.specs.Tables.{Table, Counted}
 use Rattle.collectors.specs.Filing.{Carries, Rows, Sorted, sorted, on_top, At, Sent, Missed, PutRefused}
 use Rattle.collectors.specs.declared.bucket_collector.SegmentBucketCollector.{SegmentBucketCollector}
@@ -61,7 +62,7 @@ Files result table stored waiting plan made g was is bucket grows =
     (λ f. Missed (plan was.0.below) l (length was.1) g (filed_in table stored waiting was.0 was.1 g) (λ n. bucket < n) (grows l) was.2 is.2 (made_in table made was.0) (made_in table made is.0) f)
 
 -- A row is put into a slice, and after it the rows below it, if there is room for them all.
-abbrev pub PutRow : {T W : Type 0} → (T → W) → Feeding W → Plan → Seg → (path : List ℤ) (count : ℕ) (docs : List ℕ) → (was is : List (Row T)) → (at end : ℕ) → Type 0
-PutRow {T} {W} worth f plan g path count docs was is at end =
-    (es : List (Entry W)) × (Written f plan.column plan.field_type g plan.levels path docs es
-    × (at + suc (length es) ≤ length was → Put worth was is at end (record { path = path; count = count; worth = tally_worth f plan g docs } ∷ es)))
+abbrev pub PutRow : {T W : Type 0} → (T → W) → (nothing : W) (fed : ColumnType → ℕ → W → W) → Plan → Seg → (path : List ℤ) (count : ℕ) (docs : List ℕ) → (was is : List (Row T)) → (at end : ℕ) → Type 0
+PutRow {T} {W} worth nothing fed plan g path count docs was is at end =
+    (es : List (Entry W)) × (Written (record { nothing = nothing; fed = fed }) plan.column plan.field_type g plan.levels path docs es
+    × (at + suc (length es) ≤ length was → Put worth was is at end (record { path = path; count = count; worth = tally_worth nothing fed plan g docs } ∷ es)))

@@ -120,7 +120,7 @@ impl<K: RowTable, C: SubAggCache> SegmentBucketCollector<K, C> {
             let plan = C.plan self.now.below in
             let path = above_steps above ++ (t.step row ∷ []) in
             Ready C.stored C.rests C.prepared self.now.below slots.now row (λ g docs. length path + length plan.levels ≤ 3
-            → PutRow C.Fruit.Tally.worth record { nothing = C.Fruit.Tally.nothing; fed = C.Fruit.Tally.fed } plan g path (t.count row) docs out.old out.new at result) }
+            → PutRow C.Fruit.Tally.worth C.Fruit.Tally.nothing C.Fruit.Tally.fed plan g path (t.count row) docs out.old out.new at result) }
     {
         let Some(path) = path_below(above, self.inner.step_of(row)) else {
             return at;
@@ -255,7 +255,7 @@ impl<K: RowTable, C: SubAggCache> SegmentAggregationCollector for SegmentBucketC
         at: usize,
     ) -> usize {
         let mut end = at;
-        // By index, as in `spread`: the table may hold a bucket's rows in any form.
+        // By index, as in `spread`: the table may hold a bucket's rows in any form. No bucket has more rows than there are.
         for index in 0..self.inner.num_rows() {
             let Some(row) = self.inner.row_at(bucket, index) else {
                 break;

@@ -27,6 +27,7 @@ pub(crate) fn deliver<C: SubAggCache, S: Segment>(
         return Ok(());
     }
     below.hand_over(seg, limits, slots)?;
+    // Its answer is true: an empty cache is never full, and the row is below 512.
     let _ = below.push(row, doc);
     Ok(())
 }

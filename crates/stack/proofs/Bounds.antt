@@ -1,8 +1,11 @@
 -- No level has more rows than its table: distinct places below a number of buckets are at most that many, and the rows of
 -- a level are the buckets of the level below.
-use Rattle.std.proofs.Common.{◌≡◌, ℕ, zero, suc, ◌+◌, ◌<◌, ◌≤◌, true, false, cond, eqb, List, [], ◌∷◌, map, length, get_or, drop, ℤ, pos, sym, refl, ap, ◌∙◌, subst, ap₂, inl, inr, arith}
+use Rattle.std.proofs.Common.{◌≡◌, ℕ, zero, suc, ◌+◌, ◌<◌, ◌≤◌, Bool, true, false, not, eqb, filter, ◌≢◌, List, [], ◌∷◌, map, length, get_or, drop, ℤ, pos, sym, refl, ap, ◌∙◌, subst, ap₂, inl, inr, arith}
+use Rattle.std.specs.List.{list_any, IsDistinct}
 use Rattle.std.proofs.lemmas.List.{length-map}
-use Rattle.std.proofs.lemmas.Bool.{cases_eq, cond-true, cond-false, eq-eqb, ne_eqb}
+use Rattle.std.proofs.lemmas.List.Filters.{length-filter_both}
+use Rattle.std.proofs.lemmas.Map.Steps.{length-le_from_distinct_below}
+use Rattle.std.proofs.lemmas.Bool.{cond_both, both_ways, or_cases, ne_eqb, eqb-true}
 use Rattle.segments.specs.Segments.{Seg}
 use Rattle.stack.specs.Levels.{Lvl, There}
 use Rattle.stack.specs.Overruns.{Deliveries, More, Place, Exists, All, Distinct, Crowd, depth_of, Bounded, Complete, Numbers}
@@ -14,134 +17,64 @@ use Rattle.stack.proofs.Overrunning.{all_imp, all_map, all_both, crowd_as}
 abbrev Low : ℕ → Place → Type 0
 Low n x = (x.0 < n) × (length x.1 ≡ 0)
 
--- the places of other buckets
-abbrev without : ℕ → List Place → List Place
-without n [] = []
-without n (x ∷ xs) = cond (eqb x.0 n) (without n xs) (x ∷ without n xs)
-
-all_without : (Q : Place → Type 0) (n : ℕ) (xs : List Place) → All Q xs → All Q (without n xs)
-all_without Q n [] a = tt
-all_without Q n (x ∷ xs) a =
-    elim (eqb x.0 n) as (λ t. All Q (cond t (without n xs) (x ∷ without n xs))) [ true ↦ all_without Q n xs a.1 | false ↦ (a.0, all_without Q n xs a.1) ]
-
-distinct_without : (n : ℕ) (xs : List Place) → Distinct xs → Distinct (without n xs)
-distinct_without n [] d = tt
-distinct_without n (x ∷ xs) d =
-    elim (eqb x.0 n) as (λ t. Distinct (cond t (without n xs) (x ∷ without n xs))) [
-      | true ↦ distinct_without n xs d.1
-      | false ↦ (all_without (λ y. x ≡ y → ⊥) n xs d.0, distinct_without n xs d.1)
-    ]
-
-without_hit : (n : ℕ) (x : Place) (xs : List Place) → x.0 ≡ n → without n (x ∷ xs) ≡ without n xs
-without_hit n x xs e = cond-true (eqb x.0 n) (without n xs) (x ∷ without n xs) (eq-eqb x.0 n e)
-
-without_miss : (n : ℕ) (x : Place) (xs : List Place) → (x.0 ≡ n → ⊥) → without n (x ∷ xs) ≡ x ∷ without n xs
-without_miss n x xs e = cond-false (eqb x.0 n) (without n xs) (x ∷ without n xs) (ne_eqb x.0 n e)
-
-low_without : (n : ℕ) (xs : List Place) → All (Low (suc n)) xs → All (Low n) (without n xs)
-low_without n [] a = tt
-low_without n (x ∷ xs) a = elim (cases_eq x.0 n) [
-  | inl e ↦ subst (All (Low n)) (sym (without_hit n x xs e)) (low_without n xs a.1)
-  | inr e ↦ subst (All (Low n)) (sym (without_miss n x xs e)) ((omega (arith, a.0.0, e), a.0.1), low_without n xs a.1)
-]
-
-without_none : (n : ℕ) (xs : List Place) → All (λ y. y.0 ≡ n → ⊥) xs → without n xs ≡ xs
-without_none n [] a = refl
-without_none n (x ∷ xs) a = without_miss n x xs a.0 ∙ ap (λ t. x ∷ t) (without_none n xs a.1)
+-- the buckets of places
+abbrev buckets : List Place → List ℕ
+buckets xs = map (λ (x : Place). x.0) xs
 
 nil_of : (p : List ℤ) → length p ≡ 0 → p ≡ []
 nil_of [] e = refl
 nil_of (s ∷ p) e = absurd (omega arith)
 
-low_same : (n k : ℕ) (x y : Place) → Low n x → Low k y → x.0 ≡ y.0 → x ≡ y
-low_same n k x y a b e = ap₂ (λ i j. (i, j)) e (nil_of x.1 a.1 ∙ sym (nil_of y.1 b.1))
+low_same : (n : ℕ) (x y : Place) → Low n x → Low n y → x.0 ≡ y.0 → x ≡ y
+low_same n x y a b e = ap₂ (λ i j. (i, j)) e (nil_of x.1 a.1 ∙ sym (nil_of y.1 b.1))
 
-length_without : (n k : ℕ) (xs : List Place) → All (Low k) xs → Distinct xs → length xs ≤ suc (length (without n xs))
-length_without n k [] a d = omega arith
-length_without n k (x ∷ xs) a d = elim (cases_eq x.0 n) [
-  | inl e ↦
-      let others = all_imp (λ y. (x ≡ y → ⊥) × Low k y) (λ y. y.0 ≡ n → ⊥) xs (λ y h f. h.0 (low_same k k x y a.0 h.1 (e ∙ sym f))) (all_both (λ y. x ≡ y → ⊥) (Low k) xs d.0 a.1) in
-      omega (arith, ap length (without_hit n x xs e), ap length (without_none n xs others))
-  | inr e ↦ omega (arith, ap length (without_miss n x xs e), length_without n k xs a.1 d.1)
+buckets-apart : (n : ℕ) (xs : List Place) → All (Low n) xs → Distinct xs → IsDistinct eqb (buckets xs)
+unfolding IsDistinct
+buckets-apart n [] a d = tt
+buckets-apart n (x ∷ xs) a d = (
+  all_map (λ y. (x ≢ y) × Low n y) (λ k. eqb x.0 k ≡ false) (λ y. y.0) xs (λ y h. ne_eqb x.0 y.0 (λ e. h.0 (low_same n x y a.0 h.1 e))) (all_both (λ y. x ≢ y) (Low n) xs d.0 a.1),
+  buckets-apart n xs a.1 d.1,
+)
+
+bucket_low : (n b : ℕ) (xs : List Place) → All (Low n) xs → list_any (eqb b) (buckets xs) ≡ true → b < n
+bucket_low n b [] a e = absurd (both_ways false refl e)
+bucket_low n b (x ∷ xs) a e = elim (or_cases (eqb b x.0) (list_any (eqb b) (buckets xs)) e) [
+  | inl h ↦ subst (λ (k : ℕ). k < n) (sym (eqb-true b x.0 h)) a.0.0
+  | inr h ↦ bucket_low n b xs a.1 h
 ]
 
--- by induction on the number: take the places of its last bucket away
-pigeons : (n : ℕ) (xs : List Place) → All (Low n) xs → Distinct xs → length xs ≤ n
-pigeons zero [] a d = omega arith
-pigeons zero (x ∷ xs) a d = absurd (omega (arith, a.0.0))
-pigeons (suc n) xs a d = omega (arith, length_without n (suc n) xs a d, pigeons n (without n xs) (low_without n xs a) (distinct_without n xs d))
+low_few : (n : ℕ) (xs : List Place) → All (Low n) xs → Distinct xs → length xs ≤ n
+low_few n xs a d = omega (arith, length-le_from_distinct_below (buckets xs) n (buckets-apart n xs a d) (λ b e. bucket_low n b xs a e), length-map xs (λ (x : Place). x.0))
 
 pub crowd_few : (ls : List Lvl) (g : Seg) (nb : ℕ) (D : Deliveries) (m : ℕ) → Crowd ls g nb D (λ k. k ≡ 0) m → m ≤ nb
-crowd_few ls g nb D m c = omega (arith, c.many, pigeons nb c.places (all_imp (λ x. Exists ls g nb D x × (length x.1 ≡ 0)) (Low nb) c.places (λ x h. (h.0.0, h.1)) c.there) c.distinct)
+crowd_few ls g nb D m c = omega (arith, c.many, low_few nb c.places (all_imp (λ x. Exists ls g nb D x × (length x.1 ≡ 0)) (Low nb) c.places (λ x h. (h.0.0, h.1)) c.there) c.distinct)
 
 -- ---- the places with no step, and the others
-abbrev pub kept : List Place → List Place
-kept [] = []
-kept (x ∷ xs) = cond (eqb (length x.1) 0) (x ∷ kept xs) (kept xs)
+abbrev here : Place → Bool
+here x = eqb (length x.1) 0
 
-abbrev pub lost : List Place → List Place
-lost [] = []
-lost (x ∷ xs) = cond (eqb (length x.1) 0) (lost xs) (x ∷ lost xs)
+abbrev further : Place → Bool
+further x = not (here x)
 
-pub parts_length : (xs : List Place) → length xs ≡ length (kept xs) + length (lost xs)
-parts_length [] = refl
-parts_length (x ∷ xs) =
-    let h = parts_length xs in
-    elim (eqb (length x.1) 0) as (λ t. suc (length xs) ≡ length (cond t (x ∷ kept xs) (kept xs)) + length (cond t (lost xs) (x ∷ lost xs))) [ true ↦ omega arith | false ↦ omega arith ]
+some_step : (n : ℕ) → not (eqb n 0) ≡ true → 1 ≤ n
+some_step zero e = absurd (both_ways false refl e)
+some_step (suc n) e = omega arith
 
-all_kept : (Q : Place → Type 0) (xs : List Place) → All Q xs → All Q (kept xs)
-all_kept Q [] a = tt
-all_kept Q (x ∷ xs) a = elim (eqb (length x.1) 0) as (λ t. All Q (cond t (x ∷ kept xs) (kept xs))) [ true ↦ (a.0, all_kept Q xs a.1) | false ↦ all_kept Q xs a.1 ]
+all_filter : (p : Place → Bool) (P Q : Place → Type 0) (xs : List Place) → ((x : Place) → p x ≡ true → P x → Q x) → All P xs → All Q (filter p xs)
+all_filter p P Q [] f a = tt
+all_filter p P Q (x ∷ xs) f a = let rest = all_filter p P Q xs f a.1 in cond_both (p x) (x ∷ filter p xs) (filter p xs) (All Q) (λ e. (f x e a.0, rest)) (λ _. rest)
 
-all_lost : (Q : Place → Type 0) (xs : List Place) → All Q xs → All Q (lost xs)
-all_lost Q [] a = tt
-all_lost Q (x ∷ xs) a = elim (eqb (length x.1) 0) as (λ t. All Q (cond t (lost xs) (x ∷ lost xs))) [ true ↦ all_lost Q xs a.1 | false ↦ (a.0, all_lost Q xs a.1) ]
+distinct_filter : (p : Place → Bool) (xs : List Place) → Distinct xs → Distinct (filter p xs)
+distinct_filter p [] d = tt
+distinct_filter p (x ∷ xs) d =
+    let rest = distinct_filter p xs d.1 in
+    cond_both (p x) (x ∷ filter p xs) (filter p xs) Distinct (λ _. (all_filter p (λ y. x ≢ y) (λ y. x ≢ y) xs (λ y _ h. h) d.0, rest)) (λ _. rest)
 
-distinct_kept : (xs : List Place) → Distinct xs → Distinct (kept xs)
-distinct_kept [] d = tt
-distinct_kept (x ∷ xs) d =
-    elim (eqb (length x.1) 0) as (λ t. Distinct (cond t (x ∷ kept xs) (kept xs))) [
-      | true ↦ (all_kept (λ y. x ≡ y → ⊥) xs d.0, distinct_kept xs d.1)
-      | false ↦ distinct_kept xs d.1
-    ]
-
-distinct_lost : (xs : List Place) → Distinct xs → Distinct (lost xs)
-distinct_lost [] d = tt
-distinct_lost (x ∷ xs) d =
-    elim (eqb (length x.1) 0) as (λ t. Distinct (cond t (lost xs) (x ∷ lost xs))) [
-      | true ↦ distinct_lost xs d.1
-      | false ↦ (all_lost (λ y. x ≡ y → ⊥) xs d.0, distinct_lost xs d.1)
-    ]
-
-kept-zero : (xs : List Place) → All (λ x. length x.1 ≡ 0) (kept xs)
-kept-zero [] = tt
-kept-zero (x ∷ xs) = elim (cases_eq (length x.1) 0) [
-  | inl e ↦ subst (All (λ y. length y.1 ≡ 0)) (sym (cond-true (eqb (length x.1) 0) (x ∷ kept xs) (kept xs) (eq-eqb (length x.1) 0 e))) (e, kept-zero xs)
-  | inr e ↦ subst (All (λ y. length y.1 ≡ 0)) (sym (cond-false (eqb (length x.1) 0) (x ∷ kept xs) (kept xs) (ne_eqb (length x.1) 0 e))) (kept-zero xs)
-]
-
-lost_some : (xs : List Place) → All (λ x. 1 ≤ length x.1) (lost xs)
-lost_some [] = tt
-lost_some (x ∷ xs) = elim (cases_eq (length x.1) 0) [
-  | inl e ↦ subst (All (λ y. 1 ≤ length y.1)) (sym (cond-true (eqb (length x.1) 0) (lost xs) (x ∷ lost xs) (eq-eqb (length x.1) 0 e))) (lost_some xs)
-  | inr e ↦ subst (All (λ y. 1 ≤ length y.1)) (sym (cond-false (eqb (length x.1) 0) (lost xs) (x ∷ lost xs) (ne_eqb (length x.1) 0 e))) (omega (arith, e), lost_some xs)
-]
-
-pub kept_crowd : (ls : List Lvl) (g : Seg) (nb : ℕ) (D : Deliveries) (m : ℕ) (c : Crowd ls g nb D (λ k. 0 ≤ k) m) → Crowd ls g nb D (λ k. k ≡ 0) (length (kept c.places))
-kept_crowd ls g nb D m c = record {
-  places = kept c.places;
-  there = all_both (Exists ls g nb D) (λ x. length x.1 ≡ 0) (kept c.places)
-      (all_kept (Exists ls g nb D) c.places (all_imp (λ x. Exists ls g nb D x × (0 ≤ length x.1)) (Exists ls g nb D) c.places (λ x h. h.0) c.there)) (kept-zero c.places);
-  distinct = distinct_kept c.places c.distinct;
-  many = omega arith;
-}
-
-pub lost_crowd : (ls : List Lvl) (g : Seg) (nb : ℕ) (D : Deliveries) (m : ℕ) (c : Crowd ls g nb D (λ k. 0 ≤ k) m) → Crowd ls g nb D (λ k. 1 ≤ k) (length (lost c.places))
-lost_crowd ls g nb D m c = record {
-  places = lost c.places;
-  there = all_both (Exists ls g nb D) (λ x. 1 ≤ length x.1) (lost c.places)
-      (all_lost (Exists ls g nb D) c.places (all_imp (λ x. Exists ls g nb D x × (0 ≤ length x.1)) (Exists ls g nb D) c.places (λ x h. h.0) c.there)) (lost_some c.places);
-  distinct = distinct_lost c.places c.distinct;
+crowd_part : (p : Place → Bool) (Q : ℕ → Type 0) → ((x : Place) → p x ≡ true → Q (length x.1)) → (ls : List Lvl) (g : Seg) (nb : ℕ) (D : Deliveries) (m : ℕ) (c : Crowd ls g nb D (λ k. 0 ≤ k) m) → Crowd ls g nb D Q (length (filter p c.places))
+crowd_part p Q f ls g nb D m c = record {
+  places = filter p c.places;
+  there = all_filter p (λ x. Exists ls g nb D x × (0 ≤ length x.1)) (λ x. Exists ls g nb D x × Q (length x.1)) c.places (λ x e h. (h.0, f x e)) c.there;
+  distinct = distinct_filter p c.places c.distinct;
   many = omega arith;
 }
 
@@ -210,9 +143,9 @@ module _ (l : Lvl) (ls : List Lvl) (g : Seg) (nb rows : ℕ) (E D : Deliveries) 
     bounded = bounded-up slots h below.bounded;
     all = λ m c.
         let d = crowd-down (λ j. 1 ≤ j) (λ j. 0 ≤ j) m (λ j p. p) (λ j p. omega arith) c in
-        let few = crowd_few ls g rows E (length (kept d.places)) (kept_crowd ls g rows E m d) in
-        let rest = below.all (length (lost d.places)) (lost_crowd ls g rows E m d) in
-        omega (arith, d.many, few, rest, parts_length d.places);
+        let few = crowd_few ls g rows E (length (filter here d.places)) (crowd_part here (λ k. k ≡ 0) (λ x e. eqb-true (length x.1) 0 e) ls g rows E m d) in
+        let rest = below.all (length (filter further d.places)) (crowd_part further (λ k. 1 ≤ k) (λ x e. some_step (length x.1) e) ls g rows E m d) in
+        omega (arith, d.many, few, rest, length-filter_both here further (λ x. refl) d.places);
   }
 
 -- ---- fewer buckets and deliveries have fewer rows

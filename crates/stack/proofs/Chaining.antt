@@ -57,35 +57,28 @@ stopped_with a b k m n p q f e h s = record {
 pub others_same : (a b : AggregationLimits) (k m others : ℕ) → Charged a b k m → a.used ≡ others + k → b.used ≡ others + m
 others_same a b k m others c e = omega (arith, c.paid, e)
 
-pub went_then : (A B C : (n buckets : ℕ) → Deliveries → Type 0) (in1 in2 inside : ℕ → Type 0) (gr1 gr2 grows : Deliveries → Deliveries) (p q r : Plan) (a b c : AggregationLimits) (k m n : ℕ)
-    → ((b : ℕ) → inside b → in1 b) → ((b : ℕ) → inside b → in2 b) → ((D : Deliveries) → gr2 (gr1 D) ≡ grows D)
-    → Went A B in1 gr1 p q a b k m → Went B C in2 gr2 q r b c m n → Went A C inside grows p r a c k n
-went_then A B C in1 in2 inside gr1 gr2 grows p q r a b c k m n i1 i2 e x y = record {
-  keeps = λ l buckets h D s. subst (C l buckets) (e D) (y.keeps l buckets (i2 buckets h) (gr1 D) (x.keeps l buckets (i1 buckets h) D s));
+-- below the buckets of the first call, which the second takes too
+pub went_then : {A B C : (n buckets : ℕ) → Deliveries → Type 0} {inside in2 : ℕ → Type 0} {gr1 gr2 grows : Deliveries → Deliveries} {p q r : Plan} {a b c : AggregationLimits} {k m n : ℕ}
+    → Went A B inside gr1 p q a b k m → Went B C in2 gr2 q r b c m n → ((b : ℕ) → inside b → in2 b) → ((D : Deliveries) → gr2 (gr1 D) ≡ grows D) → Went A C inside grows p r a c k n
+went_then {A} {B} {C} {inside} {in2} {gr1} x y i e = record {
+  keeps = λ l buckets h D s. subst (C l buckets) (e D) (y.keeps l buckets (i buckets h) (gr1 D) (x.keeps l buckets h D s));
   same_plan = y.same_plan ∙ x.same_plan;
-  charged = charged_trans a b c k m n x.charged y.charged;
+  charged = charged_trans _ _ _ _ _ _ x.charged y.charged;
 }
 
-pub went_overran : (from : ℕ) (slots : ℕ) (g : Seg) (A B : (n buckets : ℕ) → Deliveries → Type 0) (in1 in2 inside : ℕ → Type 0) (gr1 gr2 grows : Deliveries → Deliveries) (p q : Plan) (a b c : AggregationLimits) (k m n : ℕ) (f : Fault)
-    → ((b : ℕ) → inside b → in1 b) → ((b : ℕ) → inside b → in2 b) → ((D : Deliveries) → More (gr2 (gr1 D)) (grows D))
-    → Went A B in1 gr1 p q a b k m → Overran from q slots g B in2 gr2 b c m n f → Overran from p slots g A inside grows a c k n f
-went_overran from slots g A B in1 in2 inside gr1 gr2 grows p q a b c k m n f i1 i2 more x y = record {
+-- with slots that keep their number
+pub went_overran : {from slots slots' : ℕ} {g : Seg} {gr1 gr2 grows : Deliveries → Deliveries} {p q : Plan} {a b c : AggregationLimits} {k m n : ℕ} {f : Fault} {A B : (n buckets : ℕ) → Deliveries → Type 0} {inside in2 : ℕ → Type 0}
+    → slots' ≡ slots → Went A B inside gr1 p q a b k m → Overran from q slots' g B in2 gr2 b c m n f → ((b : ℕ) → inside b → in2 b) → ((D : Deliveries) → More (gr2 (gr1 D)) (grows D)) → Overran from p slots g A inside grows a c k n f
+went_overran {from} {slots} {slots'} {g} {gr1} {gr2} {grows} {p} {q} {a} {b} {c} {k} {m} {n} {f} same x y i more = record {
   stopped = stopped_after a b c k m n f x.charged y.stopped;
   overrun = λ l buckets others D h s u.
-      let o = y.overrun l buckets others (gr1 D) (i2 buckets h) (x.keeps l buckets (i1 buckets h) D s) (others_same a b k m others x.charged u) in
-      let o' = subst (λ (t : ℕ). Overrun from q.levels slots l g buckets (gr2 (gr1 D)) others t f) x.charged.same_limit o in
-      let o'' = subst (λ (t : Plan). Overrun from t.levels slots l g buckets (gr2 (gr1 D)) others a.limit f) x.same_plan o' in
-      overrun_more from p.levels slots l g buckets (gr2 (gr1 D)) (grows D) others a.limit f (more D) o'';
+      let o = y.overrun l buckets others (gr1 D) (i buckets h) (x.keeps l buckets h D s) (others_same a b k m others x.charged u) in
+      let limited = subst (λ (t : ℕ). Overrun from q.levels slots' l g buckets (gr2 (gr1 D)) others t f) x.charged.same_limit o in
+      let planned = subst (λ (t : Plan). Overrun from t.levels slots' l g buckets (gr2 (gr1 D)) others a.limit f) x.same_plan limited in
+      let sized = subst (λ (t : ℕ). Overrun from p.levels t l g buckets (gr2 (gr1 D)) others a.limit f) same planned in
+      overrun_more from p.levels slots l g buckets (gr2 (gr1 D)) (grows D) others a.limit f (more D) sized;
 }
 
 -- nothing done
-pub went_none : (A : (n buckets : ℕ) → Deliveries → Type 0) (inside : ℕ → Type 0) (grows : Deliveries → Deliveries) (p : Plan) (a : AggregationLimits) (m : ℕ) → ((D : Deliveries) → grows D ≡ D) → Went A A inside grows p p a a m m
-went_none A inside grows p a m e = record { keeps = λ n buckets h D s. subst (A n buckets) (sym (e D)) s; same_plan = refl; charged = charged_none a m m refl }
-
--- a refusal of part of the call's deliveries is one of them all
-pub overran_part : (from slots : ℕ) (g : Seg) (A : (n buckets : ℕ) → Deliveries → Type 0) (in1 inside : ℕ → Type 0) (gr1 grows : Deliveries → Deliveries) (p : Plan) (a b : AggregationLimits) (k m : ℕ) (f : Fault)
-    → ((b : ℕ) → inside b → in1 b) → ((D : Deliveries) → More (gr1 D) (grows D)) → Overran from p slots g A in1 gr1 a b k m f → Overran from p slots g A inside grows a b k m f
-overran_part from slots g A in1 inside gr1 grows p a b k m f i more x = record {
-  stopped = x.stopped;
-  overrun = λ n buckets others D h s u. overrun_more from p.levels slots n g buckets (gr1 D) (grows D) others a.limit f (more D) (x.overrun n buckets others D (i buckets h) s u);
-}
+pub went_none : {A : (n buckets : ℕ) → Deliveries → Type 0} {inside : ℕ → Type 0} {grows : Deliveries → Deliveries} {p : Plan} {a : AggregationLimits} {m : ℕ} → ((D : Deliveries) → grows D ≡ D) → Went A A inside grows p p a a m m
+went_none {A} {inside} {grows} {p} {a} {m} e = record { keeps = λ n buckets h D s. subst (A n buckets) (sym (e D)) s; same_plan = refl; charged = charged_none a m m refl }

@@ -1,5 +1,6 @@
 -- More deliveries never undo an overrun, and what is overrun below is overrun here.
 use Rattle.std.proofs.Common.{◌≡◌, ℕ, zero, suc, ◌+◌, ◌<◌, ◌≤◌, List, [], ◌∷◌, ◌++◌, map, length, get_or, drop, pos, sym, refl, ap, ◌∙◌, subst, ap₂, arith}
+use Rattle.std.specs.List.{AllByRecursion}
 use Rattle.std.proofs.lemmas.List.{length-append, length-map}
 use Rattle.records.specs.declared.fault.Fault.{Fault}
 use Rattle.records.specs.declared.fault.Refusal.TheVariants.{TooManyRows, AllowanceExceeded, CountOverflow}
@@ -14,7 +15,7 @@ pub all_imp : (P Q : Place → Type 0) (xs : List Place) → ((x : Place) → P 
 all_imp P Q [] f a = tt
 all_imp P Q (x ∷ xs) f a = (f x a.0, all_imp P Q xs f a.1)
 
-pub all_map : (P Q : Place → Type 0) (h : Place → Place) (xs : List Place) → ((x : Place) → P x → Q (h x)) → All P xs → All Q (map h xs)
+pub all_map : {B : Type 0} (P : Place → Type 0) (Q : B → Type 0) (h : Place → B) (xs : List Place) → ((x : Place) → P x → Q (h x)) → All P xs → AllByRecursion Q (map h xs)
 all_map P Q h [] f a = tt
 all_map P Q h (x ∷ xs) f a = (f x a.0, all_map P Q h xs f a.1)
 

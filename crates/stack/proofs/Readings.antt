@@ -26,7 +26,8 @@ pub readings-append : (ls : List Lvl) (g : Seg) (ds es : List ℕ) (p : List ℤ
 unfolding readings
 readings-append ls g ds es p = ap length (on_both (take (length p) ls) g ds es p) ∙ length-append (on_path p (chains_of (take (length p) ls) g ds)) (on_path p (chains_of (take (length p) ls) g es))
 
-values-append : (g : Seg) (column : ℕ) (ds es : List ℕ) → values_of g column (ds ++ es) ≡ values_of g column ds ++ values_of g column es
+-- the values of one list of documents, then of the other
+pub values-append : (g : Seg) (column : ℕ) (ds es : List ℕ) → values_of g column (ds ++ es) ≡ values_of g column ds ++ values_of g column es
 values-append g column [] es = refl
 values-append g column (d ∷ ds) es = ap (λ (xs : List ℕ). values g column d ++ xs) (values-append g column ds es) ∙ sym (append_assoc (values g column d) (values_of g column ds) (values_of g column es))
 

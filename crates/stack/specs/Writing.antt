@@ -36,8 +36,8 @@ row_worth f [] column t g docs = fed_all f.fed t (values_of g column docs) f.not
 row_worth f (l ∷ ls) column t g docs = f.nothing
 
 -- the same, by a plan
-abbrev pub tally_worth : {W : Type 0} → Feeding W → Plan → Seg → List ℕ → W
-tally_worth f plan g docs = row_worth f plan.levels plan.column plan.field_type g docs
+abbrev pub tally_worth : {W : Type 0} (nothing : W) (fed : ColumnType → ℕ → W → W) → Plan → Seg → List ℕ → W
+tally_worth nothing fed plan g docs = row_worth (record { nothing = nothing; fed = fed }) plan.levels plan.column plan.field_type g docs
 
 -- for each step its own row, then the rows below it
 abbrev pub Blocks : {W : Type 0} → (ℤ → Entry W) → (ℤ → List (Entry W) → Type 0) → List ℤ → List (Entry W) → Type 0
@@ -60,6 +60,6 @@ pub record Put {T W : Type 0} (worth : T → W) (was is : List (Row T)) (at end 
   pub entries_are : entries worth rows ≡ es
 
 -- the rows of a plan below a bucket with these documents, under a path, are put into a slice if there is room for them all
-abbrev pub PutBelow : {T W : Type 0} → (T → W) → Feeding W → Plan → Seg → List ℤ → List ℕ → (was is : List (Row T)) → (at end : ℕ) → Type 0
-PutBelow {T} {W} worth f plan g above docs was is at end =
-    (es : List (Entry W)) × (Written f plan.column plan.field_type g plan.levels above docs es × (at + length es ≤ length was → Put worth was is at end es))
+abbrev pub PutBelow : {T W : Type 0} → (T → W) → (nothing : W) (fed : ColumnType → ℕ → W → W) → Plan → Seg → List ℤ → List ℕ → (was is : List (Row T)) → (at end : ℕ) → Type 0
+PutBelow {T} {W} worth nothing fed plan g above docs was is at end =
+    (es : List (Entry W)) × (Written (record { nothing = nothing; fed = fed }) plan.column plan.field_type g plan.levels above docs es × (at + length es ≤ length was → Put worth was is at end es))

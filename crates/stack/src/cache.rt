@@ -24,7 +24,9 @@ use segments::segment::Segment;
 /// they are handed over to that level. All other calls go to the level.
 ///
 /// It means, for each bucket, the documents that wait for it, in waiting order; the order between buckets is left open.
-// The segment, the limits and the slots are lent one by one, as to a level.
+// It repeats the level's functions, since the level is reached through its cache alone: a `below_mut` would have to promise
+// what the cache is once the borrow ends, whatever was done with the level in between.
+// The segment, the limits and the slots are lent one by one, as to a level, and so are a request and its ranges.
 pub trait SubAggCache {
     /// What is asked of the level below.
     type Request;
@@ -83,7 +85,7 @@ pub trait SubAggCache {
 
     /// Lets a pair wait behind the others of its bucket; false, and unaltered, where it is full or the bucket is not below
     /// 512.
-    // A bool, as the `insert` of a set: it says whether the pair went in.
+    // A bool: nothing stands beside the answer, and a caller that is refused hands over first, whatever the reason.
     fn push(&mut self, bucket: u32, doc: u32) -> bool
         ensures answer { (bucket < 512 → result ≡ not (full self.old)) × (512 ≤ bucket → result ≡ false) }
         ensures after { Pushed result (waiting self.old) (pending self.old) (waiting self.new) (pending self.new) bucket doc }
@@ -128,7 +130,7 @@ pub trait SubAggCache {
 
     fn tally_of(&self, slots: &[Self::Fruit], bucket: u32) -> Self::Fruit
         ensures { Ready stored rests prepared self.now slots.now bucket
-            (λ g docs. Self.Fruit.worth result ≡ tally_worth record { nothing = Self.Fruit.nothing; fed = Self.Fruit.fed } (plan self.now) g docs) };
+            (λ g docs. Self.Fruit.worth result ≡ tally_worth Self.Fruit.nothing Self.Fruit.fed (plan self.now) g docs) };
 
     fn write_rows(
         &self,
@@ -140,7 +142,7 @@ pub trait SubAggCache {
     ) -> usize
         ensures { Ready stored rests prepared self.now slots.now bucket
             (λ g docs. length (above_steps above) + length (plan self.now).levels ≤ 3
-            → PutBelow Self.Fruit.worth record { nothing = Self.Fruit.nothing; fed = Self.Fruit.fed } (plan self.now) g (above_steps above) docs out.old out.new at result) };
+            → PutBelow Self.Fruit.worth Self.Fruit.nothing Self.Fruit.fed (plan self.now) g (above_steps above) docs out.old out.new at result) };
 
     fn kind_at(&self, down: u32) -> Option<Kind>
         ensures { result ≡ slice_get (map kind_of (plan self.now).levels) down };

@@ -55,6 +55,7 @@ pub trait SegmentAggregationCollector {
     ghost made: { Self → ℕ };
 
     /// Refuses a request, or accepts it; alters nothing.
+    // One by one: a request is plain, and its ranges lie in a slice that is lent beside it.
     fn check<S: Segment>(
         request: &Self::Request,
         ranges: &[RangeAggregationRange],
@@ -64,6 +65,7 @@ pub trait SegmentAggregationCollector {
         ensures { Answers result (refused request.now ranges.now (S.means seg.now).column_type level) };
 
     /// Empties the level and all below it, and takes up a request that was accepted.
+    // One by one, as to `check`.
     fn reset<S: Segment>(
         &mut self,
         request: &Self::Request,
@@ -142,9 +144,10 @@ pub trait SegmentAggregationCollector {
     /// The tally of the bucket's row in the level above: what the bottom keeps for it, and the empty one above that.
     fn tally_of(&self, slots: &[Self::Fruit], bucket: u32) -> Self::Fruit
         ensures { Ready holds settled prepared self.now slots.now bucket
-            (λ g docs. Self.Fruit.worth result ≡ tally_worth record { nothing = Self.Fruit.nothing; fed = Self.Fruit.fed } (plan self.now) g docs) };
+            (λ g docs. Self.Fruit.worth result ≡ tally_worth Self.Fruit.nothing Self.Fruit.fed (plan self.now) g docs) };
 
     /// Writes the rows below a bucket in path order from `at` on, if there is room for all of them, and says where they end.
+    // A whole slice and an index: of a part of it, lent on mutably, clauses would have to say that the rest stays.
     fn write_rows(
         &self,
         slots: &[Self::Fruit],
@@ -155,7 +158,7 @@ pub trait SegmentAggregationCollector {
     ) -> usize
         ensures { Ready holds settled prepared self.now slots.now bucket
             (λ g docs. length (above_steps above) + length (plan self.now).levels ≤ 3
-            → PutBelow Self.Fruit.worth record { nothing = Self.Fruit.nothing; fed = Self.Fruit.fed } (plan self.now) g (above_steps above) docs out.old out.new at result) };
+            → PutBelow Self.Fruit.worth Self.Fruit.nothing Self.Fruit.fed (plan self.now) g (above_steps above) docs out.old out.new at result) };
 
     /// The kind of the level so far down; none past the last.
     fn kind_at(&self, down: u32) -> Option<Kind>

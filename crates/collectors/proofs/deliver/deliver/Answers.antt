@@ -3,9 +3,9 @@ use Rattle.std.proofs.Common.{◌≡◌, true, not, [], ◌∷◌, sym, refl, ap
 use Rattle.std.proofs.lemmas.Result.{err_from_is_err_and}
 use Rattle.stack.specs.Overruns.{Deliveries, added}
 use Rattle.stack.specs.Calls.{Inside}
+use Rattle.stack.proofs.Chaining.{went_then, went_overran}
 use Rattle.stack.proofs.Delivering.{more_added, more_refl}
 use Rattle.collectors.specs.Carrying.{waits_none, still_went, push_went, hand_went, hand_overran}
-use Rattle.collectors.proofs.Chaining.{went_next, overran_next, went_inside, overran_inside}
 use Rattle.collectors.proofs.deliver.deliver.Goals as goal
 
 pub returns-then-push : goal.returns-then-push
@@ -19,8 +19,8 @@ returns-in_err-hand_over g c =
     let back = c.push.ensures.after.unaltered c.if-push.false in
     let kept = c.push.ensures.kept in
     let one = c.args.doc ∷ [] in
-    rw (q.1, q.2) (overran_next refl (still_went back.0 (kept.0 c.args.slots.now (g.S.Segment.means c.args.seg.now)) kept.1 kept.2)
-    (overran_inside (λ n i. subst (λ (w : Deliveries). Inside w n) (sym back.0) i) (hand_overran (λ E. more_added E c.args.row one) c.in_err-hand_over.ensures))
+    rw (q.1, q.2) (went_overran refl (still_went back.0 (kept.0 c.args.slots.now (g.S.Segment.means c.args.seg.now)) kept.1 kept.2)
+    (hand_overran (λ E. more_added E c.args.row one) c.in_err-hand_over.ensures) (λ n i. subst (λ (w : Deliveries). Inside w n) (sym back.0) i)
     (λ E. more_refl (added E c.args.row one)))
 
 pub returns : goal.returns
@@ -32,7 +32,7 @@ returns g c =
     let kept2 = c.push-2.ensures.kept in
     let hand = c.in_ok-hand_over.ensures in
     let room : c.push-2.result ≡ true = c.push-2.ensures.answer.0 c.requires ∙ ap not (g.met.C.SubAggCache.roomy handed hand.1) in
-    went_next
-    (went_next (still_went back.0 (kept.0 c.args.slots.now seg) kept.1 kept.2)
-    (went_inside (λ n i. subst (λ (w : Deliveries). Inside w n) (sym back.0) i) (hand_went (waits_none (g.met.C.SubAggCache.waits handed) hand.1) hand.0)) (λ E. refl))
-    (push_went c.args.row c.args.doc (c.push-2.ensures.after.waits room) (kept2.0 c.hand_over.new.slots seg) kept2.1 kept2.2) (λ E. refl)
+    went_then
+    (went_then (still_went back.0 (kept.0 c.args.slots.now seg) kept.1 kept.2) (hand_went (waits_none (g.met.C.SubAggCache.waits handed) hand.1) hand.0)
+    (λ n i. subst (λ (w : Deliveries). Inside w n) (sym back.0) i) (λ E. refl))
+    (push_went c.args.row c.args.doc (c.push-2.ensures.after.waits room) (kept2.0 c.hand_over.new.slots seg) kept2.1 kept2.2) (λ _ h. h) (λ E. refl)

@@ -21,7 +21,7 @@ returns g c =
     let s = c.args.self.now in
     record {
       keeps = λ n buckets i D h.
-          (h.0, slots_fed t.worth record { nothing = t.nothing; fed = t.fed } (bottom_plan s.column s.field_type) (g.S.Segment.means c.args.seg.now) c.args.slots.now c.feed_slot.new.slots c.args.bucket c.args.docs.now c.feed_slot.ensures D h.1);
+          (h.0, slots_fed t.worth t.nothing t.fed (bottom_plan s.column s.field_type) (g.S.Segment.means c.args.seg.now) c.args.slots.now c.feed_slot.new.slots c.args.bucket c.args.docs.now c.feed_slot.ensures D h.1);
       same_plan = refl;
       charged = charged_none c.args._limits.now 0 0 refl;
     }

@@ -3,10 +3,10 @@ use Rattle.std.proofs.Common.{◌≡◌, ℕ, ◌+◌, take, sym, refl, ap, ◌�
 use Rattle.std.proofs.lemmas.List.{take_all}
 use Rattle.std.proofs.lemmas.Result.{err_from_is_err_and}
 use Rattle.segments.specs.Segments.{values}
+use Rattle.segments.proofs.Values.{past}
 use Rattle.stack.specs.Levels.{step_of, steps_of_values, steps}
 use Rattle.collectors.specs.Filing.{Sorted, Within, placed_all}
 use Rattle.collectors.specs.Spreading.{sent_none, sent_then, sent_missed, value_next, within-part}
-use Rattle.collectors.proofs.Writing.{read_none}
 use Rattle.collectors.proofs.bucket_collector.SegmentBucketCollector.spread.Goals.{in-Some+in_ok-place, in_default}
 use Rattle.collectors.proofs.bucket_collector.SegmentBucketCollector.spread.Goals as goal
 
@@ -25,7 +25,7 @@ loop-i-preserved g c =
       | in-Some+in_ok-place w ↦
           let done = w.in_ok-place.ensures in
           rw (w.self-is, w.limits-is, w.slots-is) (done.0 ∙ inv.0, sent_then inv.1 done.1 (λ F. value_next F c.args.bucket c.args.doc t.level u.level vs i w.in-Some.val inv.0 (sym w.in-Some.ensures)))
-      | in_default w ↦ absurd (omega (arith, read_none vs i (sym w.in_default.ensures), c.loop-i-test.true, c.num_values-i-end.ensures))
+      | in_default w ↦ absurd (omega (arith, past vs i (sym w.in_default.ensures), c.loop-i-test.true, c.num_values-i-end.ensures))
     ]
 
 pub returns-in_err-place : goal.returns-in_err-place

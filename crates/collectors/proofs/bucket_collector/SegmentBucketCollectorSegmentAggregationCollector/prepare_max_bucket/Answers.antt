@@ -4,7 +4,7 @@ use Rattle.std.proofs.lemmas.Result.{err_from_is_err_and, MatchResult-weaker}
 use Rattle.segments.specs.Segments.{Seg}
 use Rattle.stack.proofs.Delivering.{more_refl}
 use Rattle.collectors.specs.Holding.{prepared_went, unprepared_overran, below_went, below_overran, carried_by, overran_by}
-use Rattle.collectors.proofs.Chaining.{went_next, overran_next}
+use Rattle.stack.proofs.Chaining.{went_then, went_overran}
 use Rattle.collectors.proofs.bucket_collector.SegmentBucketCollectorSegmentAggregationCollector.prepare_max_bucket.Goals as goal
 
 pub returns-in_err-prepare : goal.returns-in_err-prepare
@@ -23,10 +23,10 @@ returns g c =
     let wider = λ (seg : Seg). g.met.C.SubAggCache.wider was slots seg in
     MatchResult-weaker c.prepare_max_bucket.result c.prepare_max_bucket.ensures
     (λ x done. (
-      (λ seg. went_next (prepared_went sound seg (cache.made was) (wider seg) made) (carried_by seg (λ n E r. omega (arith, c.num_rows-rows.ensures)) (below_went done.1.0 (done.0 seg))) (λ D. refl)),
+      (λ seg. went_then (prepared_went sound seg (cache.made was) (wider seg) made) (carried_by seg (λ n E r. omega (arith, c.num_rows-rows.ensures)) (below_went done.1.0 (done.0 seg))) (λ _ h. h) (λ D. refl)),
       (
         (λ s. (done.1.1 ∙ s.0, done.1.2 s.1)),
         (made.complete, subst (λ (k : ℕ). cache.prepared is (length slots) k) c.num_rows-rows.ensures done.1.3),
       ),
     ))
-    (λ f over seg. overran_next refl (prepared_went sound seg (cache.made was) (wider seg) made) (overran_by sound (λ n E r. omega (arith, c.num_rows-rows.ensures)) (below_overran (over seg))) more_refl)
+    (λ f over seg. went_overran refl (prepared_went sound seg (cache.made was) (wider seg) made) (overran_by sound (λ n E r. omega (arith, c.num_rows-rows.ensures)) (below_overran (over seg))) (λ _ h. h) more_refl)

@@ -1,15 +1,9 @@
 -- Each turn writes one row with the rows below it; at the end all that are listed are written.
-use Rattle.std.proofs.Common.{ℕ, suc, List, [], ◌∷◌, ◌++◌, take, None, sym, refl, subst, arith, length-append}
-use Rattle.segments.specs.Segments.{Seg}
-use Rattle.segments.proofs.Values.{more}
+use Rattle.std.proofs.Common.{ℕ, suc, List, [], ◌∷◌, ◌++◌, take, sym, refl, subst, arith, length-append}
+use Rattle.segments.proofs.Values.{more, past}
 use Rattle.stack.specs.Writing.{above_steps, Feeding}
-use Rattle.collectors.specs.Carrying.{waits_none, carry_none}
-use Rattle.collectors.proofs.Writing.{BlocksOf, entry_at, blocks_more, put_none, put_then, put_size, read_none, listed_row, listed_few, all_put}
+use Rattle.collectors.proofs.Writing.{BlocksOf, entry_at, blocks_more, put_none, put_then, put_size, listed_row, listed_few, level_put}
 use Rattle.collectors.proofs.bucket_collector.SegmentBucketCollectorSegmentAggregationCollector.write_rows.Goals as goal
-
--- some segment, where any will do
-empty : Seg
-empty = record { docs = 0; column_type = λ _. None; held = λ _ _. [] }
 
 pub write_row-end-requires : goal.write_row-end-requires
 write_row-end-requires g c =
@@ -51,31 +45,20 @@ loop-index-preserved g c = λ seg n E rests prepared stored depth.
     )
 
 pub returns-in_default : goal.returns-in_default
-returns-in_default g c = λ seg n buckets D settled prepared below holds depth.
+returns-in_default g c =
     let cache = g.C.SubAggCache in
     let tally = g.C.Fruit.Tally in
     let inner = c.args.self.now.inner in
     let was = c.args.self.now.below in
-    let t = g.K.RowTable.table inner in
-    let listed = g.K.RowTable.listed inner c.args.bucket in
-    let lists = g.met.K.RowTable.lists inner c.args.bucket in
-    let feeding : Feeding tally.Worth = record { nothing = tally.nothing; fed = tally.fed } in
-    let y = holds.filed in
-    let stored = carry_none (waits_none (g.met.C.SubAggCache.waits was) settled.0) y.of_rows.carries in
-    all_put feeding (cache.plan was) seg t (g.met.K.RowTable.sound inner) D y prepared.0 below lists (above_steps c.args.above) (read_none listed c.loop-index.index (sym c.in_default.ensures))
-    (c.loop-index.invariant seg (suc n) y.docs_of settled.1 prepared.1 stored depth)
+    level_put tally.nothing tally.fed (cache.plan was) (above_steps c.args.above) (cache.stored was c.args.slots.now) (g.met.K.RowTable.sound inner) (g.met.C.SubAggCache.waits was) (g.met.K.RowTable.lists inner c.args.bucket)
+    c.loop-index.invariant (past (g.K.RowTable.listed inner c.args.bucket) c.loop-index.index (sym c.in_default.ensures))
 
 pub returns-after-loop-index : goal.returns-after-loop-index
-returns-after-loop-index g c = λ seg n buckets D settled prepared below holds depth.
+returns-after-loop-index g c =
     let cache = g.C.SubAggCache in
     let tally = g.C.Fruit.Tally in
     let inner = c.args.self.now.inner in
     let was = c.args.self.now.below in
-    let t = g.K.RowTable.table inner in
-    let listed = g.K.RowTable.listed inner c.args.bucket in
     let lists = g.met.K.RowTable.lists inner c.args.bucket in
-    let feeding : Feeding tally.Worth = record { nothing = tally.nothing; fed = tally.fed } in
-    let y = holds.filed in
-    let stored = carry_none (waits_none (g.met.C.SubAggCache.waits was) settled.0) y.of_rows.carries in
-    all_put feeding (cache.plan was) seg t (g.met.K.RowTable.sound inner) D y prepared.0 below lists (above_steps c.args.above) (omega (arith, listed_few t c.args.bucket listed empty lists, c.loop-index-test.false, c.num_rows-index-end.ensures))
-    (c.loop-index.invariant seg (suc n) y.docs_of settled.1 prepared.1 stored depth)
+    level_put tally.nothing tally.fed (cache.plan was) (above_steps c.args.above) (cache.stored was c.args.slots.now) (g.met.K.RowTable.sound inner) (g.met.C.SubAggCache.waits was) lists
+    c.loop-index.invariant (omega (arith, listed_few (g.K.RowTable.table inner) c.args.bucket (g.K.RowTable.listed inner c.args.bucket) lists, c.loop-index-test.false, c.num_rows-index-end.ensures))
