@@ -2,6 +2,5 @@ pub mod Index
 pub mod Rows
 pub mod Listing
 pub mod Keeping
-pub mod Members
 pub mod Ordering
 pub mod Placing

@@ -1,5 +1,5 @@
 -- What a histogram level's table shows, and what a request asks for.
-use Rattle.std.specs.Prelude.{◌≡◌, ℕ, ◌<◌, ◌≤◌, true, List, take, ℤ, Some, None, filter, Option, nat_eq, slice_index, slice_set}
+use Rattle.std.specs.Prelude.{◌≡◌, ℕ, ◌<◌, ◌≤◌, true, List, take, Some, None, filter, Option, nat_eq, slice_index, slice_set}
 use Rattle.std.specs.Option.{unwrap_or}
 use Rattle.records.specs.declared.column_type.ColumnType.{ColumnType}
 use Rattle.records.specs.declared.column_type.ColumnType.TheVariants.{U64}
@@ -36,17 +36,17 @@ table_of c = record {
 abbrev pub listed_of : HistogramRows → ℕ → List ℕ
 listed_of c b = filter (λ k. nat_eq (slot_at c.slots k).bucket b) (take c.counts.rows c.order)
 
--- row k is that of a bucket and a position
-pub record IsRow (c : HistogramRows) (k b : ℕ) (p : ℤ) : Type 0 where
+-- row k is that of a slot
+pub record IsRow (c : HistogramRows) (k : ℕ) (slot : Slot) : Type 0 where
   pub there : k < c.counts.rows
-  pub bucket : (slot_at c.slots k).bucket ≡ b
-  pub position : (slot_at c.slots k).position ≡ p
+  pub bucket : (slot_at c.slots k).bucket ≡ slot.bucket
+  pub position : (slot_at c.slots k).position ≡ slot.position
 
--- no row is that of a bucket and a position, and it would stand at this place of the index
-pub record Free (c : HistogramRows) (at b : ℕ) (p : ℤ) : Type 0 where
+-- no row is that of a slot, and it would stand at this place of the index
+pub record Free (c : HistogramRows) (at : ℕ) (slot : Slot) : Type 0 where
   pub within : at ≤ c.counts.rows
-  pub below : (i : ℕ) → i < at → row_before c.slots (slice_index c.order i) b p ≡ true
-  pub above : (i : ℕ) → at ≤ i → i < c.counts.rows → before b p (slot_at c.slots (slice_index c.order i)).bucket (slot_at c.slots (slice_index c.order i)).position ≡ true
+  pub below : (i : ℕ) → i < at → row_before c.slots (slice_index c.order i) slot ≡ true
+  pub above : (i : ℕ) → at ≤ i → i < c.counts.rows → before slot (slot_at c.slots (slice_index c.order i)) ≡ true
 
 -- the index up to a place has the rows below lower buckets, from there on the others
 pub record First (c : HistogramRows) (b at : ℕ) : Type 0 where
@@ -60,16 +60,16 @@ pub record Made (was is : HistogramRows) (slot : Slot) : Type 0 where
   pub row : OneMore was.counts is.counts
   pub slots : is.slots ≡ slice_set was.slots was.counts.rows slot
 
--- row k is that of a bucket and a position, and no other row is new
-pub record Got (was is : HistogramRows) (before after : AggregationLimits) (b : ℕ) (p : ℤ) (k : ℕ) : Type 0 where
+-- row k is that of a slot, and no other row is new
+pub record Got (was is : HistogramRows) (before after : AggregationLimits) (slot : Slot) (k : ℕ) : Type 0 where
   pub grew : Grew (table_of was) (table_of is)
   pub charged : Charged before after was.counts.rows is.counts.rows
-  pub row : IsRow is k b p
+  pub row : IsRow is k slot
   pub new : (j : ℕ) → was.counts.rows ≤ j → j < is.counts.rows → j ≡ k
 
 -- it could not be made
-pub record NotGot (was is : HistogramRows) (before after : AggregationLimits) (b : ℕ) (p : ℤ) (f : Fault) : Type 0 where
-  pub lacks : Lacks (table_of was) (table_of is) before after f b p
+pub record NotGot (was is : HistogramRows) (before after : AggregationLimits) (slot : Slot) (f : Fault) : Type 0 where
+  pub lacks : Lacks (table_of was) (table_of is) before after f slot.bucket slot.position
   pub none_new : is.counts.rows ≡ was.counts.rows
 
 -- the type of a column, U64 where it has none

@@ -10,7 +10,8 @@ use rows::counts::{Counts, MOST_ROWS};
 /// The rows of a histogram level, numbered in the order of making: for each its slot and its count.
 ///
 /// Beside them `order` lists the rows' numbers, rising by slot.
-// A sorted index in place of a map: tables are Copy and need no heap.
+// `slots` lies beside the counts, not in one array of rows with them: the counts are another crate's, which keeps them for
+// both kinds of table. `order` is a sorted index in place of a map: tables are Copy and need no heap.
 #[derive(Clone, Copy)]
 pub struct HistogramRows {
     pub(crate) counts: Counts,

@@ -16,7 +16,7 @@ mod tests {
     use buckets::histogram::HistogramAggregation;
     use limits::agg_limits::AggregationLimits;
     use records::column_type::ColumnType;
-    use records::fault::Fault;
+    use records::fault::Refusal;
     use rows::table::RowTable;
     use segments::dense::DenseSegment;
 
@@ -45,10 +45,6 @@ mod tests {
         rows
     }
 
-    fn refusal<T: Drop>(r: Result<T, Fault>) -> Option<(u8, u32)> {
-        r.err().map(|fault| (fault.refusal.number(), fault.level))
-    }
-
     #[test]
     fn at_most_512_rows(rt: HostRuntime) {
         let mut limits = AggregationLimits {
@@ -60,7 +56,10 @@ mod tests {
             assert!(rt; rows.row_for(&mut limits, 3, val).is_ok());
         }
         assert_eq!(rt; rows.num_rows(), 512);
-        assert_eq!(rt; refusal(rows.row_for(&mut limits, 3, 512)), Some((11, 2)));
+        assert_eq!(rt;
+            rows.row_for(&mut limits, 3, 512).err(),
+            Some(Refusal::TooManyRows.at(2))
+        );
         assert_eq!(rt;
             rows.row_for(&mut limits, 3, 511).unwrap_or(None),
             Some(511)
@@ -75,7 +74,10 @@ mod tests {
         assert!(rt; rows.row_for(&mut limits, 0, 19).is_ok());
         assert!(rt; rows.row_for(&mut limits, 0, 10).is_ok());
         assert!(rt; rows.row_for(&mut limits, 1, 10).is_ok());
-        assert_eq!(rt; refusal(rows.row_for(&mut limits, 1, 20)), Some((12, 2)));
+        assert_eq!(rt;
+            rows.row_for(&mut limits, 1, 20).err(),
+            Some(Refusal::AllowanceExceeded.at(2))
+        );
         assert_eq!(rt; rows.num_rows(), 2);
         assert_eq!(rt; limits.used, 3);
     }

@@ -95,6 +95,8 @@ impl RowTable for HistogramRows {
         self.counts.reset(level);
     }
 
+    // One call each, as in the other table. The trait does not lend out the counts instead: a `counts_mut` would have to
+    // promise what comes back when the borrow ends.
     fn column(&self) -> u32 {
         self.column
     }
