@@ -1,5 +1,5 @@
 //! The kinds of levels.
-ghost use Rattle.std.specs.Prelude.{◌≡◌};
+ghost use Rattle.std.specs.Prelude.{◌≡◌, Decides};
 ghost use Rattle.records.specs.Kinds.{kind_number};
 
 /// What a level sorts by. Its discriminant is the number that stands for the kind in a sheet.
@@ -17,5 +17,23 @@ impl Kind {
         ensures { result ≡ kind_number self }
     {
         self as u8
+    }
+}
+
+#[cfg(test)]
+mod tests {
+    use super::*;
+
+    // The derived `==` is equality.
+    fn are_equal(a: Kind, b: Kind) -> bool
+        ensures { Decides result (a ≡ b) }
+    {
+        a == b
+    }
+
+    #[test]
+    fn kinds(rt: HostRuntime) {
+        assert!(rt; are_equal(Kind::Range, Kind::Range));
+        assert!(rt; !are_equal(Kind::Range, Kind::Histogram));
     }
 }
