@@ -11,7 +11,7 @@ use stack::level::SegmentAggregationCollector;
 /// How many pairs a buffer has room for.
 pub(crate) const CAPACITY: usize = 2048;
 
-/// How many buckets there may be: the bucket of a pair is below it.
+/// How many buckets there may be, as many as a level can have rows: the bucket of a pair is below it.
 pub(crate) const BUCKETS: usize = 512;
 
 /// At most 2,048 pairs of a bucket number below 512 and a document, which wait for a level.
@@ -32,6 +32,7 @@ pub trait Buffer {
 
     /// Puts a pair behind the others of its bucket; false, and unaltered, where there is no room or the bucket is not below
     /// 512.
+    // A bool, as the `insert` of a set: nothing comes with the answer, and the pair is the caller's still.
     fn push(&mut self, bucket: u32, doc: u32) -> bool
         ensures answer { (bucket < 512 → result ≡ not (pending self.old == 2048)) × (512 ≤ bucket → result ≡ false) }
         ensures after { Pushed result (waiting self.old) (pending self.old) (waiting self.new) (pending self.new) bucket doc };

@@ -17,6 +17,7 @@ const PARTITIONS: usize = 16;
 #[derive(Clone, Copy)]
 pub struct Partitions {
     partitions: [Pairs; PARTITIONS],
+    // The sum of theirs, kept so that `is_full` does not add them up.
     len: usize,
     ghost few: { len ≤ 2048 },
     ghost total: { group_len partitions ≡ len },
