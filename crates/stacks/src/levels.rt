@@ -129,7 +129,7 @@ mod tests {
         }
     }
 
-    // A path as one number: its steps, each plus 1, are the digits.
+    // A path as one number, so that the rows below read as a table: its steps, each plus 1, are the digits.
     fn digits(path: &Path) -> i64 {
         path.steps().iter().fold(0i64, |number, step| {
             number.wrapping_mul(10).wrapping_add(*step).wrapping_add(1)
