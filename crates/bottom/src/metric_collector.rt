@@ -128,6 +128,7 @@ impl<T: Tally> SegmentAggregationCollector for SegmentMetricCollector<T> {
         seg: &S,
         level: u32,
     ) -> Result<(), Fault> {
+        // Said at each level in std's words: a name for the expression would be as long.
         seg.column_type(request.column)
             .map(|_| ())
             .ok_or(Refusal::UnknownColumn.at(level))

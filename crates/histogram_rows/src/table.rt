@@ -76,6 +76,7 @@ impl RowTable for HistogramRows {
         seg: &S,
         level: u32,
     ) -> Result<(), Fault> {
+        // Said at each level in std's words: a name for the expression would be as long.
         let unknown = Refusal::UnknownColumn.at(level);
         let field_type = seg.column_type(request.column).ok_or(unknown)?;
         validate_histogram(&request.aggregation, field_type, level)

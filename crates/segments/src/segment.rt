@@ -32,6 +32,7 @@ pub trait Segment: Copy {
 
 /// A segment in slices: the values of a document in a column are one part of a slice.
 pub(crate) trait Sliced: Copy {
+    // `docs` and `types` ask for a field each, which a trait cannot name.
     ghost holds: { Self → Seg };
 
     fn docs(&self) -> u32
