@@ -144,6 +144,7 @@ impl<T: Tally> SegmentAggregationCollector for SegmentMetricCollector<T> {
     ) {
         self.number = level;
         self.column = request.column;
+        // U64 where the column is unknown, which `check` refuses: in std's words, as there.
         self.field_type = seg.column_type(request.column).unwrap_or(ColumnType::U64);
         // Not `fill`, which asks that a clone cannot fail.
         for slot in slots.iter_mut() {

@@ -12,6 +12,7 @@ use stack::level::SegmentAggregationCollector;
 pub(crate) const CAPACITY: usize = 2048;
 
 /// How many buckets there may be, as many as a level can have rows: the bucket of a pair is below it.
+// Not `MOST_ROWS` of `rows`: the caches stand on no table.
 pub(crate) const BUCKETS: usize = 512;
 
 /// At most 2,048 pairs of a bucket number below 512 and a document, which wait for a level.

@@ -67,6 +67,7 @@ impl<B: Buffer, L: SegmentAggregationCollector> SubAggCache for CachedSubAggs<B,
 
     ghost roomy = { Prim.search rules };
 
+    // One call each to the level, for the reason that stands at the trait.
     fn check<S: Segment>(
         request: &L::Request,
         ranges: &[RangeAggregationRange],

@@ -10,6 +10,7 @@ use segments::segment::Segment;
 use stack::cache::SubAggCache;
 
 /// Lets a document wait for a row, handing over first where the cache is full.
+// The segment, the limits and the slots are lent one by one, as to a level.
 pub(crate) fn deliver<C: SubAggCache, S: Segment>(
     below: &mut C,
     seg: &S,

@@ -89,6 +89,7 @@ impl RowTable for HistogramRows {
         seg: &S,
         level: u32,
     ) {
+        // U64 where the column is unknown, which `check` refuses: in std's words, as there.
         let field_type = seg.column_type(request.column).unwrap_or(ColumnType::U64);
         self.grid = Grid::new(&request.aggregation, field_type);
         self.field_type = field_type;
@@ -96,8 +97,7 @@ impl RowTable for HistogramRows {
         self.counts.reset(level);
     }
 
-    // One call each, as in the other table. The trait does not lend out the counts instead: a `counts_mut` would have to
-    // promise what comes back when the borrow ends.
+    // A field, which the trait cannot name.
     fn column(&self) -> u32 {
         self.column
     }
@@ -106,6 +106,8 @@ impl RowTable for HistogramRows {
         Kind::Histogram
     }
 
+    // One call each, as in the other table. The trait does not lend out the counts instead: a `counts_mut` would have to
+    // promise what comes back when the borrow ends.
     fn number(&self) -> u32 {
         self.counts.level
     }

@@ -9,6 +9,7 @@ pub fn floor_i64(x: f64) -> i64
     ensures value { result ≡ Whole.floor_i64 x }
     ensures order { Whole.Floor (neg_ℤ (pos (2 ^ 63))) (pos (2 ^ 63 - 1)) x result }
 {
+    // A floor of its own, by a rule of the project: the float's may be a call of the C library.
     let cut = saturating_f64_to_i64(x);
     if nearest_i64_to_f64(cut) > x {
         cut.saturating_sub(1)

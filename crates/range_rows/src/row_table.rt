@@ -47,12 +47,14 @@ impl RowTable for RangeRows {
         seg: &S,
         level: u32,
     ) {
+        // U64 where the column is unknown, which `check` refuses: in std's words, as there.
         let field_type = seg.column_type(request.column).unwrap_or(ColumnType::U64);
         self.tiling = extend_ranges(request.ranges(ranges), field_type);
         self.counts.reset(level);
         self.column = request.column;
     }
 
+    // A field, which the trait cannot name.
     fn column(&self) -> u32 {
         self.column
     }

@@ -35,6 +35,7 @@ pub trait RowTable {
     ghost listed: { Self → ℕ → List ℕ };
 
     /// Refuses a request, or accepts it.
+    // One by one, as to a level: a request is plain, and its ranges lie in a slice that is lent beside it.
     fn check<S: Segment>(
         request: &Self::Request,
         ranges: &[RangeAggregationRange],

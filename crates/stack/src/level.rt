@@ -104,7 +104,8 @@ pub trait SegmentAggregationCollector {
             (Inside (paired bucket_ids.now docs.now)) (λ D. all_added D (paired bucket_ids.now docs.now)) }
     {
         let pairs = bucket_ids.len().min(docs.len());
-        // By index: a run's documents are lent where they stand, as the part of their slice beside the run.
+        // By index: a run's documents are lent where they stand, as the part of their slice beside the run, and std has no
+        // `chunk_by` over two slices.
         let mut start = 0;
         while start < pairs {
             let end = run_end(bucket_ids, start, pairs);
