@@ -5,12 +5,20 @@ ghost use Rattle.std.specs.Cmp.Rules.{comparing};
 ghost use Rattle.std.proofs.Common.{rules};
 ghost use Rattle.metrics.specs.Floats.{float_of, bits_of, Keeps};
 
+use std::fmt;
 use std::num::{f64_from_bits_with_nan, f64_to_bits_with_nan};
 
 /// A float kept as bits. Any NaN is written as one pattern, and read and compared as the same float.
-#[derive(Clone, Copy, Debug)]
+#[derive(Clone, Copy)]
 pub(crate) struct FloatBits {
     bits: u64,
+}
+
+// By hand, so that a tally's `{:?}` shows the bits alone.
+impl fmt::Debug for FloatBits {
+    fn fmt<W: fmt::Write>(&self, f: &mut fmt::Formatter<W>) -> fmt::Result {
+        fmt::Debug::fmt(&self.bits, f)
+    }
 }
 
 impl From<f64> for FloatBits {
