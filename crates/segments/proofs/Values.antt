@@ -1,9 +1,8 @@
 -- What is read of a segment's lists, and that unknown columns and documents read as none.
-use Rattle.std.proofs.Common.{◌≡◌, ℕ, zero, suc, ◌+◌, ◌-◌, ◌*◌, ◌<◌, ◌≤◌, Bool, true, false, ◌⊎◌, cond, leb, List, [], ◌∷◌, ◌++◌, length, min, get_or, take, drop, is_some, Some, None, Option, sym, refl, ap, ◌∙◌, inl, inr, le_of_suc-le-suc, not-suc-le-zero, add_assoc, suc-add, zero-add, arith, le-ltb, lt-ltb, le-leb}
-use borrow.Author.Tests.{lt-leb}
-use Rattle.std.specs.List.{slice_get, PartBy}
-use Rattle.std.specs.Option.{option_to_list, UnwrapsOrElse}
-use Rattle.std.proofs.lemmas.List.{take_all, take_more, drop_all, drop_more, length-take, length-drop}
+use Rattle.std.proofs.Common.{◌≡◌, ℕ, zero, suc, ◌+◌, ◌*◌, ◌<◌, ◌≤◌, Bool, true, false, cond, List, [], ◌∷◌, ◌++◌, length, get_or, take, drop, is_some, Some, None, Option, sym, refl, ap, ◌∙◌, inl, inr, le_of_suc-le-suc, not-suc-le-zero, add_assoc, suc-add, zero-add, arith, le-ltb, lt-ltb}
+use Rattle.std.specs.List.{slice_get}
+use Rattle.std.specs.Option.{option_to_list}
+use Rattle.std.proofs.lemmas.List.{take_all, take_more, drop_all, drop_more, length-take}
 use Rattle.std.proofs.lemmas.Option.{slice_get-get_or, slice_get_past, slice_get_within, get_or_from_slice_get}
 use Rattle.std.proofs.lemmas.Bool.{cond-true, cond-false, cases_lt}
 use Rattle.records.specs.declared.column_type.ColumnType.{ColumnType}
@@ -84,32 +83,6 @@ offset_column docs types offsets stored c h d =
       | inr m ↦
           (ap (λ e. between own e stored) (nth_after p w offsets (d + 1) (omega arith)) ∙ no_end own stored ∙ sym (no_doc g c d m))
     ]
-
--- A part of length 2 of the offsets holds a document's own and the next.
-pub pair : (own offsets : List ℕ) (i : ℕ) (xs : List ℕ) → own ≡ take 2 (drop i offsets) → 2 ≤ length own → between (Some (get_or own 0 0)) (Some (get_or own 1 0)) xs ≡ between (slice_get offsets i) (slice_get offsets (i + 1)) xs
-pair own offsets i xs o h =
-    let at : (j k : ℕ) → j < 2 → i + j ≡ k → Some (get_or own j 0) ≡ slice_get offsets k =
-    λ j k l e. sym (slice_get-get_or own j 0 (omega arith)) ∙ ap (λ m. slice_get m j) o ∙ nth_part i 2 offsets j l ∙ ap (slice_get offsets) e in
-    let s = at 0 i (omega arith) (omega arith) in
-    let e = at 1 (i + 1) (omega arith) refl in
-    λ j. between (s j) (e j) xs
-
--- A part of another length is a shorter one, so there is no next offset.
-pub alone : (own offsets : List ℕ) (i : ℕ) (xs : List ℕ) → own ≡ take 2 (drop i offsets) → (length own < 2) ⊎ (3 ≤ length own) → between (slice_get offsets i) (slice_get offsets (i + 1)) xs ≡ []
-alone own offsets i xs o h =
-    let l : length own ≡ min 2 (length offsets - i) = ap length o ∙ simp (length-take, length-drop) refl in
-    ap (λ e. between (slice_get offsets i) e xs) (slice_get_past offsets (i + 1) (omega (arith, h))) ∙ no_end (slice_get offsets i) xs
-
--- What `get` lends between two offsets, or else the empty part, is what lies between them.
-pub lent : {R : Type 0} (now : R → List ℕ) (xs : List ℕ) (s e : ℕ) (o : Option R) (r : R) → PartBy now xs s e o → UnwrapsOrElse o (λ d. now d ≡ []) r → now r ≡ between (Some s) (Some e) xs
-lent now xs s e None r p n =
-    n ∙ sym (elim p.0 [
-      | inl f ↦
-          (let z : e - s ≡ 0 = omega arith in
-          either_none (leb e (length xs)) (take (e - s) (drop s xs)) (ap (λ k. take k (drop s xs)) z))
-      | inr k ↦ cond-false _ _ _ (lt-leb e (length xs) k)
-    ])
-lent now xs s e (Some x) r p n = ap now n ∙ p.0.2 ∙ sym (cond-true _ _ _ (le-leb e (length xs) p.0.1))
 
 pub more : (xs : List ℕ) (i v : ℕ) → slice_get xs i ≡ Some v → take (i + 1) xs ≡ take i xs ++ (v ∷ [])
 more xs i v e =

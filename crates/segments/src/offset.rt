@@ -3,7 +3,7 @@ ghost use Rattle.std.specs.Prelude.{◌≡◌, ℕ, ◌+◌};
 ghost use Rattle.std.specs.List.{slice_get};
 ghost use Rattle.segments.specs.Segments.{values, between, of_offset};
 
-use crate::segment::{Sliced, column_in, cut};
+use crate::segment::{Sliced, column_in};
 use records::column_type::ColumnType;
 
 /// A segment with any number of values for each document and column. Column c has one offset for each document and one
@@ -40,11 +40,12 @@ impl Sliced for OffsetSegment<'_> {
 
     fn part(&self, column: u32, doc: u32) -> &[u64] {
         let offsets = self.column(column);
-        let &[start, end] = cut(offsets, doc as usize, 2) else {
+        let at = doc as usize;
+        let Some(end) = offsets.get(at + 1) else {
             return &[];
         };
         self.values
-            .get(start as usize..end as usize)
+            .get(offsets[at] as usize..*end as usize)
             .unwrap_or_default()
     }
 }
