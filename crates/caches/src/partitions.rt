@@ -55,6 +55,10 @@ impl Buffer for Partitions {
     }
 
     fn clear(&mut self) {
+        // Their lengths lie far apart, so an empty cache is left as it is.
+        if self.len == 0 {
+            return;
+        }
         for partition in &mut self.partitions {
             partition.clear();
         }
